@@ -1,0 +1,2 @@
+// The worked examples of the rules, as proved statements.
+pub mod ties;

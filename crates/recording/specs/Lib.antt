@@ -1,0 +1,6 @@
+pub mod Refusals
+pub mod Faults
+pub mod Floats
+pub mod Readings
+pub mod Members
+pub mod Makes

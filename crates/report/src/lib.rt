@@ -1,0 +1,3 @@
+// What the programs print of a recording.
+pub mod listing;
+pub mod run;
