@@ -1,2 +1,4 @@
 pub mod Naturals
 pub mod Rounding
+pub mod First
+pub mod Lines

@@ -1,2 +1,4 @@
 pub mod Fractions
 pub mod Rounding
+pub mod First
+pub mod Lines

@@ -1,2 +1,3 @@
 // The worked examples of the rules, as proved statements.
+pub mod lifecycle;
 pub mod ties;

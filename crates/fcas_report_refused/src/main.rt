@@ -1,4 +1,4 @@
-// What the engine read from a recording on standard input.
+// What a docket tells of the recording on standard input.
 use report::run::run;
 use std::error::AnyError;
 

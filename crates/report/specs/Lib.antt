@@ -1,1 +1,3 @@
-pub mod Listing
+pub mod Summaries
+pub mod Texts
+pub mod Reports

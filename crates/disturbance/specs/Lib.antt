@@ -1,0 +1,10 @@
+pub mod Band
+pub mod Crossing
+pub mod Direction
+pub mod Disturbance
+pub mod Line
+pub mod Passing
+pub mod Recovery
+pub mod Trace
+pub mod Trigger
+pub mod Worked

@@ -1,0 +1,5 @@
+pub mod Reasons
+pub mod Loading
+pub mod Accepted
+pub mod History
+pub mod Dockets

@@ -1,0 +1,4 @@
+pub mod Checks
+pub mod Orders
+pub mod Faults
+pub mod Timelines
