@@ -1,4 +1,6 @@
 // The code that works a delivery out.
+#![tactic(auto)]
+
 mod base;
 mod basis;
 mod defects;

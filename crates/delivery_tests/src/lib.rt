@@ -1,6 +1,8 @@
 // Tests of the delivered figure. Every expected figure comes from an independent calculation in exact
 // fractions, which finds each first millisecond by trying every millisecond, and was worked out by hand
 // as well where a comment shows the numbers.
+#![tactic(auto)]
+
 #[cfg(test)]
 mod asking;
 #[cfg(test)]

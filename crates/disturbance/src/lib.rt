@@ -1,4 +1,6 @@
 // The disturbance on a trace of samples, the recovery from it and the trigger time.
+#![tactic(auto)]
+
 mod band;
 mod crossing;
 pub mod direction;

@@ -1,5 +1,7 @@
 // Examples of traces, disturbances, recoveries and trigger times. Every expected time was worked out by
 // hand from the slope of the line.
+#![tactic(auto)]
+
 #[cfg(test)]
 mod directions;
 #[cfg(test)]

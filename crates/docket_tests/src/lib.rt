@@ -1,5 +1,7 @@
 // Examples of timelines and dockets. Every expected count, refusal and table was worked out by hand from
 // the rules.
+#![tactic(auto)]
+
 #[cfg(test)]
 mod amending;
 #[cfg(test)]

@@ -1,4 +1,6 @@
 // Exact numbers: fractions, their half-up, their mean and their average over time.
+#![tactic(auto)]
+
 ghost use Rattle.exact.specs.Rounding.{Rounds};
 ghost use Rattle.exact.specs.Averages.{Levels};
 

@@ -1,4 +1,6 @@
 // What a docket tells of the recording on standard input.
+#![tactic(auto)]
+
 use report::run::run;
 
 fn main(rt: HostRuntime) -> anyhow::Result<()> {

@@ -1,4 +1,6 @@
 // Recordings of a disturbance: readings behind one interface, and the samples that they give.
+#![tactic(auto)]
+
 pub mod fault;
 mod floats;
 pub mod interface;

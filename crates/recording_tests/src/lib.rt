@@ -1,5 +1,7 @@
 // Examples of readings, recordings and refusals. Expected values of floats were worked out outside of
 // the engine, in exact fractions of the float's own value.
+#![tactic(auto)]
+
 #[cfg(test)]
 mod floating;
 #[cfg(test)]

@@ -36,9 +36,9 @@ fn counted_recovery(table: &[Sample], count: usize, disturbance: Disturbance) ->
 
 // Loads a recording into a new docket and closes it: what the docket then tells, or the refusal.
 pub fn summarize<R: Recording>(table: &mut [Sample], recording: &R) -> Result<Summary, Refusal>
-    ensures outcome { Summarizes (length table.old) (meaning recording.now) result }
-    ensures only { (o : Either Told SentBack) → Summarizes (length table.old) (meaning recording.now) o → o ≡ result }
-    ensures table { table.new ≡ over (taken (length table.old) (meaning recording.now)) table.old }
+    ensures outcome { Summarizes (length table.old) (R.meaning recording.now) result }
+    ensures only { (o : Either Told SentBack) → Summarizes (length table.old) (R.meaning recording.now) o → o ≡ result }
+    ensures table { table.new ≡ over (taken (length table.old) (R.meaning recording.now)) table.old }
 {
     let mut docket = OpenDocket::new();
     let count = docket.load(table, recording)?;

@@ -1,4 +1,6 @@
 // Settings and their trials, the services and their groups, and the rules that weigh a response.
+#![tactic(auto)]
+
 pub mod base;
 pub mod group;
 pub mod limits;

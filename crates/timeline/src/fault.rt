@@ -15,8 +15,8 @@ pub fn append_fault<E: Entry>(
     before: Option<u32>,
     e: &E,
 ) -> Option<Reason>
-    ensures value { result ≡ first_of (append_faults kind places count before e.now) }
-    ensures first { TheFirst (append_faults kind places count before e.now) result }
+    ensures value { result ≡ first_of (append_faults E.kind places count before e.now) }
+    ensures first { TheFirst (append_faults E.kind places count before e.now) result }
 {
     if let Some(field) = e.outside() {
         return Some(Reason::OutsideLimits(field));
@@ -32,8 +32,8 @@ pub fn append_fault<E: Entry>(
 
 // Why an entry may not be put at the end.
 pub fn put_fault<E: Entry>(table: &[E], count: usize, e: &E) -> Option<Reason>
-    ensures value { result ≡ first_of (put_checks kind count table.now e.now) }
-    ensures first { TheFirst (put_checks kind count table.now e.now) result }
+    ensures value { result ≡ first_of (put_checks E.kind count table.now e.now) }
+    ensures first { TheFirst (put_checks E.kind count table.now e.now) result }
 {
     if is_sound(table, count) {
         append_fault(table.len(), count, time_before(table, count), e)
@@ -44,8 +44,8 @@ pub fn put_fault<E: Entry>(table: &[E], count: usize, e: &E) -> Option<Reason>
 
 // Why the entry at a place may not be replaced by another.
 pub fn amend_fault<E: Entry>(table: &[E], count: usize, place: usize, e: &E) -> Option<Reason>
-    ensures value { result ≡ first_of (amend_checks kind count table.now place e.now) }
-    ensures first { TheFirst (amend_checks kind count table.now place e.now) result }
+    ensures value { result ≡ first_of (amend_checks E.kind count table.now place e.now) }
+    ensures first { TheFirst (amend_checks E.kind count table.now place e.now) result }
 {
     if !is_sound(table, count) {
         return Some(Reason::OtherTable);
@@ -67,8 +67,8 @@ pub fn amend_fault<E: Entry>(table: &[E], count: usize, place: usize, e: &E) -> 
 
 // Why the entry at a place may not be taken out.
 pub fn strike_fault<E: Entry>(table: &[E], count: usize, place: usize) -> Option<Reason>
-    ensures value { result ≡ first_of (strike_checks kind count table.now place) }
-    ensures first { TheFirst (strike_checks kind count table.now place) result }
+    ensures value { result ≡ first_of (strike_checks E.kind count table.now place) }
+    ensures first { TheFirst (strike_checks E.kind count table.now place) result }
 {
     if !is_sound(table, count) {
         return Some(Reason::OtherTable);

@@ -1,4 +1,6 @@
 // Timelines: entries in order of their times, in a table of the caller's.
+#![tactic(auto)]
+
 pub mod entry;
 pub mod fault;
 pub mod order;

@@ -21,7 +21,7 @@ pub(crate) fn is_misplaced(before: Option<u32>, after: Option<u32>, time: u32) -
 
 // The time of the entry before a place.
 pub fn time_before<E: Entry>(entries: &[E], place: usize) -> Option<u32>
-    ensures { result ≡ time_before kind entries.now place }
+    ensures { result ≡ time_before E.kind entries.now place }
 {
     if 0 < place && place <= entries.len() {
         Some(entries[place - 1].time())
@@ -32,7 +32,7 @@ pub fn time_before<E: Entry>(entries: &[E], place: usize) -> Option<u32>
 
 // The time of the entry after a place.
 pub(crate) fn time_after<E: Entry>(entries: &[E], place: usize) -> Option<u32>
-    ensures { result ≡ time_after kind entries.now place }
+    ensures { result ≡ time_after E.kind entries.now place }
 {
     if place < entries.len() && entries.len() - place > 1 {
         Some(entries[place + 1].time())
@@ -44,8 +44,8 @@ pub(crate) fn time_after<E: Entry>(entries: &[E], place: usize) -> Option<u32>
 // Whether a table holds as many entries as are counted, each within its limits and later than the
 // one before.
 pub fn is_sound<E: Entry>(table: &[E], count: usize) -> bool
-    ensures value { result ≡ is_sound kind count table.now }
-    ensures sound { Decides result (Sound kind count table.now) }
+    ensures value { result ≡ is_sound E.kind count table.now }
+    ensures sound { Decides result (Sound E.kind count table.now) }
 {
     if count > table.len() {
         return false;

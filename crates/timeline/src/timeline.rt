@@ -19,7 +19,7 @@ pub struct Timeline<'a, E> {
 impl<'a, E: Entry + Copy> Timeline<'a, E> {
     // Adds an entry at the end, and answers the new count.
     pub fn put(self, e: E) -> Result<usize, Refusal>
-        ensures { Puts kind self.entry.count self.entry.table.now e result self.exit.0.now }
+        ensures { Puts E.kind self.entry.count self.entry.table.now e result self.exit.0.now }
     {
         let Timeline { table, count } = self;
         allow(put_fault(table, count, &e), count)?;
@@ -28,7 +28,7 @@ impl<'a, E: Entry + Copy> Timeline<'a, E> {
 
     // Replaces the entry at a place, and answers the count.
     pub fn amend(self, place: usize, e: E) -> Result<usize, Refusal>
-        ensures { Amends kind self.entry.count self.entry.table.now place e result self.exit.0.now }
+        ensures { Amends E.kind self.entry.count self.entry.table.now place e result self.exit.0.now }
     {
         let Timeline { table, count } = self;
         allow(amend_fault(table, count, place, &e), place)?;
@@ -38,7 +38,7 @@ impl<'a, E: Entry + Copy> Timeline<'a, E> {
 
     // Takes the entry at a place out, and answers the new count.
     pub fn strike(self, place: usize) -> Result<usize, Refusal>
-        ensures { Strikes kind self.entry.count self.entry.table.now place result self.exit.0.now }
+        ensures { Strikes E.kind self.entry.count self.entry.table.now place result self.exit.0.now }
     {
         let Timeline { table, count } = self;
         allow(strike_fault(table, count, place), place)?;
@@ -64,7 +64,7 @@ fn allow(fault: Option<Reason>, place: usize) -> Result<(), Refusal>
 // Adds an entry after the counted ones of a table that is known to be theirs: it looks at the last
 // of them only.
 pub fn append<E: Entry + Copy>(table: &mut [E], count: usize, e: E) -> Result<usize, Reason>
-    ensures { Appends kind count table.old e result table.new }
+    ensures { Appends E.kind count table.old e result table.new }
 {
     if let Some(reason) = append_fault(table.len(), count, time_before(table, count), &e) {
         return Err(reason);

@@ -12,7 +12,7 @@ use Rattle.delivery.proofs.Basing.{level_is, raised_is, rise_within}
 use Rattle.delivery.proofs.base.base_push.Goals as goal
 
 pub returns-then-targets-eq0 : goal.returns-then-targets-eq0
-returns-then-targets-eq0 c = let p = hundred c.in-hundredths-pushed.ensures c.requires.0.push_within in
+returns-then-targets-eq0 c = let p = hundred c.in_hundredths-pushed.ensures c.requires.0.push_within in
     record {
       is = subst (λ (x : ℤ). Is (base_push to_half_up c.args.disturbance.direction c.args.targets.now c.args.disturbance.time c.args.point) x 1) (sym p.is) (level_is c.args.disturbance.direction c.args.targets.now c.args.disturbance.time c.args.point c.if-targets-eq0.true);
       within = within_more (omega arith) p.within;
@@ -27,15 +27,15 @@ rise {a} {b} {m} h k e =
     let f : m ≡ int_max (a -ℤ b) (pos 0) = simp to_z-of_z at e in
     held (omega arith) f (subst (Within 200000000000) (sym f) (rise_within a b h k))
 
-sum : (c : goal.After-max) → HeldSum 300000000000 (to_z w128 (of_z w128 c.in-hundredths-pushed.result)) c.max.result (c.args.point.push *ℤ pos 100 +ℤ int_max (c.trajectory-there.result -ℤ c.trajectory-here.result) (pos 0))
+sum : (c : goal.After-max) → HeldSum 300000000000 (to_z w128 (of_z w128 c.in_hundredths-pushed.result)) c.max.result (c.args.point.push *ℤ pos 100 +ℤ int_max (c.trajectory-there.result -ℤ c.trajectory-here.result) (pos 0))
 sum c =
-    let p = hundred c.in-hundredths-pushed.ensures c.requires.0.push_within in
+    let p = hundred c.in_hundredths-pushed.ensures c.requires.0.push_within in
     let m = rise c.trajectory-there.ensures.within c.trajectory-here.ensures.within c.max.ensures.value in
     held_sum (omega arith) m.is (ap (λ (x : ℤ). x +ℤ int_max (c.trajectory-there.result -ℤ c.trajectory-here.result) (pos 0)) p.is)
     (within_more (omega arith) (within-+ p.within (rise_within _ _ c.trajectory-there.ensures.within c.trajectory-here.ensures.within)))
 
-pub overflow-add-result : goal.overflow-add-result
-overflow-add-result c = (sum c).ranges
+pub overflow_add-result : goal.overflow_add-result
+overflow_add-result c = (sum c).fits
 
 pub returns : goal.returns
 returns c =

@@ -35,16 +35,16 @@ past_four xs d w table count terms z amount side sound base r h =
       ),
     )
 
-pub returns-then-is-missed : goal.returns-then-is-missed
-returns-then-is-missed c =
+pub returns-then-is_missed : goal.returns-then-is_missed
+returns-then-is_missed c =
     let e : c.args.count - 0 ≡ c.args.count = omega arith in
     let z : SFits w64 c.args.terms.enabled = search rules in
-    let missed = subst (Missing c.args.samples.now c.args.disturbance c.args.window c.args.targets.now) e (c.if-is-missed.ensures.0 refl) in
-    past_four c.args.samples.now c.args.disturbance c.args.window c.args.targets.now c.args.count c.args.terms z c.if-is-bad-amount.ensures c.if-is-wrong-side.ensures (c.if-not-is-sound.ensures.sound.0 refl) c.if-lacks-base.ensures _ (inl (missed, refl))
+    let missed = subst (Missing c.args.samples.now c.args.disturbance c.args.window c.args.targets.now) e (c.if-is_missed.ensures.0 refl) in
+    past_four c.args.samples.now c.args.disturbance c.args.window c.args.targets.now c.args.count c.args.terms z c.if-is_bad_amount.ensures c.if-is_wrong_side.ensures (c.if-not-is_sound.ensures.sound.0 refl) c.if-lacks_base.ensures _ (inl (missed, refl))
 
 pub returns : goal.returns
 returns c =
     let e : c.args.count - 0 ≡ c.args.count = omega arith in
     let z : SFits w64 c.args.terms.enabled = search rules in
-    let hit = subst (λ (n : ℕ). Missing c.args.samples.now c.args.disturbance c.args.window c.args.targets.now n → ⊥) e (not_from_Decides false c.if-is-missed.ensures refl) in
-    past_four c.args.samples.now c.args.disturbance c.args.window c.args.targets.now c.args.count c.args.terms z c.if-is-bad-amount.ensures c.if-is-wrong-side.ensures (c.if-not-is-sound.ensures.sound.0 refl) c.if-lacks-base.ensures _ (inr (hit, refl))
+    let hit = subst (λ (n : ℕ). Missing c.args.samples.now c.args.disturbance c.args.window c.args.targets.now n → ⊥) e (not_from_Decides false c.if-is_missed.ensures refl) in
+    past_four c.args.samples.now c.args.disturbance c.args.window c.args.targets.now c.args.count c.args.terms z c.if-is_bad_amount.ensures c.if-is_wrong_side.ensures (c.if-not-is_sound.ensures.sound.0 refl) c.if-lacks_base.ensures _ (inr (hit, refl))

@@ -18,7 +18,7 @@ returns g c =
     let side = (listed c.args.claim.service).side in
     let raw = to_z w64 (of_z w64 c.args.claim.enabled) in
     let same = ap (λ (s : Side). asked s c.row.result raw) c.side.ensures ∙ ap (λ (r : Row). asked side r raw) row ∙ ap (asked side (row_of (listed c.args.claim.service).group)) (to_z-of_z w64 c.args.claim.enabled z) in
-    let h = claimed (asked c.side.result c.row.result (to_z w64 (of_z w64 c.args.claim.enabled))) _ c.deliver-over.result same c.deliver-over.ensures in
+    let h = claimed (asked c.side.result c.row.result (to_z w64 (of_z w64 c.args.claim.enabled))) _ c.deliver_over.result same c.deliver_over.ensures in
     record {
       answer = h;
       only = λ s d. one_answer _ s _ d h;

@@ -26,33 +26,34 @@ asked g xs d settings rule table count terms = asked_by xs d settings (g.R.Respo
 pub returns-in-Some : goal.returns-in-Some
 returns-in-Some g c = refused_early (asked g c.args.trace.samples.now c.args.disturbance c.args.settings.now c.args.rule.now c.args.targets.now c.args.count c.args.terms) _ _ _ _ c.trigger-trigger.ensures.answer c.base-window.ensures c.recovery-restored.ensures.first c.reached-triggered.ensures c.in-Some.reason _ c.in-Some.ensures c.refused.ensures
 
-pub returns-in-default-shift : goal.returns-in-default-shift
-returns-in-default-shift g c =
+pub returns-in_default-shift : goal.returns-in_default-shift
+returns-in_default-shift g c =
     let a = (asked g c.args.trace.samples.now c.args.disturbance c.args.settings.now c.args.rule.now c.args.targets.now c.args.count c.args.terms) in
-    let none = shifts a _ _ _ _ c.trigger-trigger.ensures.answer c.base-window.ensures c.recovery-restored.ensures.first c.reached-triggered.ensures c.in-default-shift.ensures.is in
-    refused_never a _ _ _ _ c.trigger-trigger.ensures.answer c.base-window.ensures c.recovery-restored.ensures.first c.reached-triggered.ensures c.in-default.ensures _ none c.refused-in-default-shift.ensures
+    let none = shifts a _ _ _ _ c.trigger-trigger.ensures.answer c.base-window.ensures c.recovery-restored.ensures.first c.reached-triggered.ensures c.in_default-shift.ensures.is in
+    refused_never a _ _ _ _ c.trigger-trigger.ensures.answer c.base-window.ensures c.recovery-restored.ensures.first c.reached-triggered.ensures c.in_default.ensures _ none c.refused-in_default-shift.ensures
 
-pub returns-in-Some-span-defect : goal.returns-in-Some-span-defect
-returns-in-Some-span-defect g c =
+pub returns-in-Some-span_defect : goal.returns-in-Some-span_defect
+returns-in-Some-span_defect g c =
     let z : SFits w64 c.in-Some-shift.by = search rules in
     let a = (asked g c.args.trace.samples.now c.args.disturbance c.args.settings.now c.args.rule.now c.args.targets.now c.args.count c.args.terms) in
     let shifted = shifts a _ _ _ _ c.trigger-trigger.ensures.answer c.base-window.ensures c.recovery-restored.ensures.first c.reached-triggered.ensures c.in-Some-shift.ensures.is in
-    refused_late a _ _ _ _ c.trigger-trigger.ensures.answer c.base-window.ensures c.recovery-restored.ensures.first c.reached-triggered.ensures c.in-default.ensures c.in-Some-shift.by shifted _ _ (simp (to_z-of_z w64 c.in-Some-shift.by z) at c.placed-first.ensures) (simp (to_z-of_z w64 c.in-Some-shift.by z) at c.placed-second.ensures)
-    c.in-Some-span-defect.reason _ c.in-Some-span-defect.ensures c.refused-in-Some-span-defect.ensures
+    refused_late a _ _ _ _ c.trigger-trigger.ensures.answer c.base-window.ensures c.recovery-restored.ensures.first c.reached-triggered.ensures c.in_default.ensures c.in-Some-shift.by shifted _ _ (simp (to_z-of_z w64 c.in-Some-shift.by z) at c.placed-first.ensures) (simp (to_z-of_z w64 c.in-Some-shift.by z) at c.placed-second.ensures)
+    c.in-Some-span_defect.reason _ c.in-Some-span_defect.ensures c.refused-in-Some-span_defect.ensures
 
-pub slice-bounds-counted-end : goal.slice-bounds-counted-end
-slice-bounds-counted-end g c = (sound_targets c.args.trace.samples.now c.args.trace.sound c.args.disturbance c.base-window.result c.args.targets.now c.args.count c.args.terms.side c.args.terms.enabled c.in-default.ensures).room
+pub slice_bounds-counted-end : goal.slice_bounds-counted-end
+slice_bounds-counted-end g c = (sound_targets c.args.trace.samples.now c.args.trace.sound c.args.disturbance c.base-window.result c.args.targets.now c.args.count c.args.terms.side c.args.terms.enabled c.in_default.ensures).room
 
 pub basis-from-requires : goal.basis-from-requires
 basis-from-requires g c =
     let e : c.args.count ≡ c.args.count - 0 = omega arith in
-    subst (λ (n : ℕ). (Usable (course c.args.disturbance.direction c.args.trace.samples.now) × (0 < length (base_points c.args.disturbance.time c.base-window.result (course c.args.disturbance.direction c.args.trace.samples.now))))
+    let held = subst (λ (n : ℕ). (Usable (course c.args.disturbance.direction c.args.trace.samples.now) × (0 < length (base_points c.args.disturbance.time c.base-window.result (course c.args.disturbance.direction c.args.trace.samples.now))))
     × (All Aimed (take n c.args.targets.now) × (BeginsBy (λ (h : Target). h.time) c.args.disturbance.time (take n c.args.targets.now) × All (λ (p : Point). BeginsBy (λ (h : Target). h.time) p.time (take n c.args.targets.now)) (base_points c.args.disturbance.time c.base-window.result (course c.args.disturbance.direction c.args.trace.samples.now))))) e
-    (grounds c.args.trace.samples.now c.args.trace.sound c.args.disturbance c.base-window.result c.args.targets.now c.args.count c.args.terms.side c.args.terms.enabled c.in-default.ensures)
+    (grounds c.args.trace.samples.now c.args.trace.sound c.args.disturbance c.base-window.result c.args.targets.now c.args.count c.args.terms.side c.args.terms.enabled c.in_default.ensures) in
+    record { usable = held.0; all = held.1 }
 
-pub window-values-found-requires : goal.window-values-found-requires
-window-values-found-requires g c =
-    let none = none_apply (span_defects c.args.trace.samples.now c.args.terms.row.widest_gap c.placed-first.result c.placed-second.result) c.in-default-span-defect.ensures in
+pub window_values-found-requires : goal.window_values-found-requires
+window_values-found-requires g c =
+    let none = none_apply (span_defects c.args.trace.samples.now c.args.terms.row.widest_gap c.placed-first.result c.placed-second.result) c.in_default-span_defect.ensures in
     record {
       times = (subst (λ (w : Span). w.multiplier ≤ 2) (sym c.placed-first.ensures) c.requires.first.times.1, subst (λ (w : Span). w.multiplier ≤ 2) (sym c.placed-second.ensures) c.requires.second.times.1);
       stand = (none.0, ((λ b. none.1.0 (inl b)), (λ b. none.1.0 (inr b))));
@@ -65,5 +66,5 @@ returns g c =
     let shifted = shifts a _ _ _ _ c.trigger-trigger.ensures.answer c.base-window.ensures c.recovery-restored.ensures.first c.reached-triggered.ensures c.in-Some-shift.ensures.is in
     let first = simp (to_z-of_z w64 c.in-Some-shift.by z) at c.placed-first.ensures in
     let second = simp (to_z-of_z w64 c.in-Some-shift.by z) at c.placed-second.ensures in
-    reported a _ _ _ _ c.trigger-trigger.ensures.answer c.base-window.ensures c.recovery-restored.ensures.first c.reached-triggered.ensures c.in-default.ensures c.in-Some-shift.by shifted _ _ first second _ c.in-default-span-defect.ensures
-    (fills a _ _ c.basis-from.result _ _ _ c.base-window.ensures first second c.basis-from.ensures.time c.basis-from.ensures.base _ _ c.window-values-found.ensures.first c.window-values-found.ensures.second c.judged.ensures)
+    reported a _ _ _ _ c.trigger-trigger.ensures.answer c.base-window.ensures c.recovery-restored.ensures.first c.reached-triggered.ensures c.in_default.ensures c.in-Some-shift.by shifted _ _ first second _ c.in_default-span_defect.ensures
+    (fills a _ _ c.basis-from.result _ _ _ c.base-window.ensures first second c.basis-from.ensures.time c.basis-from.ensures.base _ _ c.window_values-found.ensures.first c.window_values-found.ensures.second c.judged.ensures)

@@ -5,9 +5,9 @@ use Rattle.delivery.proofs.gaps.is_gapped.Goals as goal
 pub loop-place-init : goal.loop-place-init
 loop-place-init c = λ k lt one. absurd (omega arith)
 
-pub returns-then-is-gap : goal.returns-then-is-gap
-returns-then-is-gap c =
-    let here = c.if-is-gap.ensures.0 refl in
+pub returns-then-is_gap : goal.returns-then-is_gap
+returns-then-is_gap c =
+    let here = c.if-is_gap.ensures.0 refl in
     let one : 1 ≤ c.loop-place.place = omega arith in (
       λ e. elim here.1 [
         | inl s ↦ inl (record { place = c.loop-place.place; later = one; there = c.loop-place-test.true; shares = s; wide = here.0 })
@@ -17,7 +17,7 @@ returns-then-is-gap c =
     )
 
 pub loop-place-preserved : goal.loop-place-preserved
-loop-place-preserved c = below_more _ _ c.loop-place.invariant (λ one. not_from_Decides false c.if-is-gap.ensures refl)
+loop-place-preserved c = below_more _ _ c.loop-place.invariant (λ one. not_from_Decides false c.if-is_gap.ensures refl)
 
 pub returns : goal.returns
 returns c = (

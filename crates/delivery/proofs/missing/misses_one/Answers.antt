@@ -11,16 +11,16 @@ use Rattle.delivery.proofs.missing.misses_one.Goals as goal
 pub loop-place-init : goal.loop-place-init
 loop-place-init c = λ k lt. absurd (omega arith)
 
-pub returns-then-misses-point : goal.returns-then-misses-point
-returns-then-misses-point c =
+pub returns-then-misses_point : goal.returns-then-misses_point
+returns-then-misses_point c =
     let n = length-map c.args.samples.now (turned c.args.disturbance.direction) in
-    let here = subst (λ (p : Point). (is_base c.args.disturbance.time c.args.window p ≡ true) × Missed c.args.targets.now p.time) c.point-at-point.ensures (c.if-misses-point.ensures.0 refl) in
+    let here = subst (λ (p : Point). (is_base c.args.disturbance.time c.args.window p ≡ true) × Missed c.args.targets.now p.time) c.point_at-point.ensures (c.if-misses_point.ensures.0 refl) in
     (λ e. one_missed c.args.targets.now (is_base c.args.disturbance.time c.args.window) (course c.args.disturbance.direction c.args.samples.now) origin c.loop-place.place (omega (arith, n, c.loop-place-test.true)) here.0 here.1, λ one. refl)
 
 pub loop-place-preserved : goal.loop-place-preserved
 loop-place-preserved c =
     below_more _ _ c.loop-place.invariant
-    (subst (λ (p : Point). ((is_base c.args.disturbance.time c.args.window p ≡ true) × Missed c.args.targets.now p.time) → ⊥) c.point-at-point.ensures (not_from_Decides false c.if-misses-point.ensures refl))
+    (subst (λ (p : Point). ((is_base c.args.disturbance.time c.args.window p ≡ true) × Missed c.args.targets.now p.time) → ⊥) c.point_at-point.ensures (not_from_Decides false c.if-misses_point.ensures refl))
 
 pub returns : goal.returns
 returns c =

@@ -14,6 +14,6 @@ returns c =
     let twice : SFits w128 (pos 2 *ℤ c.args.n) = omega (arith, ints) in
     let top : SFits w128 (pos 2 *ℤ c.args.n +ℤ pos c.args.d) = omega (arith, ints) in
     let bottom : SFits w128 (pos (2 * c.args.d)) = omega (arith, ints) in
-    let result : SFits w128 c.div-euclid.result = search rules in
-    let e = c.div-euclid.ensures in
-    simp (to_z-of_z w128 c.div-euclid.result result) ((simp (to_z-of_z, to_z_pos) at e) ∙ sym (half_up_frac c.args.n c.args.d c.requires.0))
+    let result : SFits w128 c.div_euclid.result = search rules in
+    let e = c.div_euclid.ensures in
+    simp (to_z-of_z w128 c.div_euclid.result result) ((simp (to_z-of_z, to_z_pos) at e) ∙ sym (half_up_frac c.args.n c.args.d c.requires.0))

@@ -44,22 +44,22 @@ fit {t} {s} {u} {v} {w} (lt, (le, (le', (hv, hw)))) small =
     let step : u - t < 2 ^ 127 = omega arith in
     record { first_fits = simp (to_z-of_z, to_z_pos) a; second_fits = simp (to_z-of_z, to_z_pos) b; top_fits = simp (to_z-of_z, to_z_pos) n; is = simp (to_z-of_z, to_z_pos); limit = simp (to_z-of_z, to_z_pos) l }
 
-pub overflow-mul-v : goal.overflow-mul-v
-overflow-mul-v c = (fit c.requires (omega arith)).first_fits
+pub overflow_mul-v : goal.overflow_mul-v
+overflow_mul-v c = (fit c.requires (omega arith)).first_fits
 
-pub overflow-mul-w : goal.overflow-mul-w
-overflow-mul-w c = (fit c.requires (omega arith)).second_fits
+pub overflow_mul-w : goal.overflow_mul-w
+overflow_mul-w c = (fit c.requires (omega arith)).second_fits
 
-pub overflow-add-v : goal.overflow-add-v
-overflow-add-v c = (fit c.requires (omega arith)).top_fits
+pub overflow_add-v : goal.overflow_add-v
+overflow_add-v c = (fit c.requires (omega arith)).top_fits
 
-pub half-up-requires : goal.half-up-requires
-half-up-requires c = (omega arith, (fit c.requires (omega arith)).limit)
+pub half_up-requires : goal.half_up-requires
+half_up-requires c = (omega arith, (fit c.requires (omega arith)).limit)
 
 pub returns : goal.returns
 returns c =
-    let e = c.half-up.ensures ∙ ap (λ (n : ℤ). half_up (frac n (c.args.s - c.args.t))) (fit c.requires (omega arith)).is in
-    let within : (A : ℕ) → Within A c.args.v → Within A c.args.w → Within A c.half-up.result =
+    let e = c.half_up.ensures ∙ ap (λ (n : ℤ). half_up (frac n (c.args.s - c.args.t))) (fit c.requires (omega arith)).is in
+    let within : (A : ℕ) → Within A c.args.v → Within A c.args.w → Within A c.half_up.result =
     λ A hv hw. subst (Within A) (sym e) (half_up_within A (c.args.s - c.args.t) _ (omega arith) (straight_within A c.args.t c.args.s c.args.u c.args.v c.args.w c.requires.1.0 c.requires.1.1.0 hv hw)) in
     let r = held {A = 2 ^ 42} (omega arith) e (within (2 ^ 42) c.requires.1.1.1.0 c.requires.1.1.1.1) in
     record { is = r.is ∙ sym (half_up_straight c.args.t c.args.s c.args.u c.args.v c.args.w c.requires.0); within = λ A hv hw. subst (Within A) (sym (r.is ∙ sym e)) (within A hv hw) }

@@ -17,8 +17,8 @@ fit : (c : goal.Start) → Fit c
 fit c = let s = within-+ c.requires.0 c.requires.1 in
     record { first = c.ranges.v; second = c.ranges.w; gap = omega arith; sum = within_fits (omega arith) s; area = within_fits (omega arith) (within-* c.args.gap s) }
 
-pub overflow-mul-result : goal.overflow-mul-result
-overflow-mul-result c = let record { first = v; second = w; gap = g; sum = s; area = a } = fit c in simp (to_z-of_z, to_z_pos) a
+pub overflow_mul-result : goal.overflow_mul-result
+overflow_mul-result c = let record { first = v; second = w; gap = g; sum = s; area = a } = fit c in simp (to_z-of_z, to_z_pos) a
 
 pub returns : goal.returns
 returns c = let record { first = v; second = w; gap = g; sum = s; area = a } = fit c in simp (to_z-of_z, to_z_pos)

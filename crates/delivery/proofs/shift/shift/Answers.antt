@@ -7,9 +7,9 @@ use Rattle.delivery.proofs.shift.shift.Goals as goal
 
 pub returns : goal.returns
 returns c =
-    let s : Fits w32 c.in-Some-trigger-time.reached = search rules in
-    let q : Fits w32 c.ramp-time.result = search rules in
+    let s : Fits w32 c.in-Some-trigger_time.reached = search rules in
+    let q : Fits w32 c.ramp_time.result = search rules in
     record {
-      is = shift_is _ _ _ _ _ _ c.ramp-time.result _ c.in-Some.is c.in-Some-trigger-time.is c.ramp-time.ensures (omega (arith, ints));
+      is = shift_is _ _ _ _ _ _ c.ramp_time.result _ c.in-Some.is c.in-Some-trigger_time.is c.ramp_time.ensures (omega (arith, ints));
       within = record { least = omega (arith, ints); most = omega (arith, ints) };
     }

@@ -13,14 +13,14 @@ use Rattle.delivery.proofs.spans.is_beyond.Goals as goal
 pub returns-then-count-eq0 : goal.returns-then-count-eq0
 returns-then-count-eq0 c =
     let none = nil_from_length c.args.trace.samples.now c.if-count-eq0.true in
-    (λ e. (not_from_Decides _ (decides_le_z c.args.span.end c.args.span.start) (sym c.if-is-empty.ensures), inl (subst (All (λ (s : Sample). c.args.span.start <ℤ pos s.time)) (sym none) tt)), λ h. refl)
+    (λ e. (not_from_Decides _ (decides_le_z c.args.span.end c.args.span.start) (sym c.if-is_empty.ensures), inl (subst (All (λ (s : Sample). c.args.span.start <ℤ pos s.time)) (sym none) tt)), λ h. refl)
 
 pub returns-then-span-samples : goal.returns-then-span-samples
 returns-then-span-samples c =
     let s : SFits w64 c.args.span.start = search rules in
     let t : (at c.args.trace.samples.now 0).time < 2 ^ 63 = search rules in
     let lt : c.args.span.start <ℤ pos (at c.args.trace.samples.now 0).time = (decides_lt_z _ _).0 (simp (to_z-of_z, to_z_pos) at c.if-span-samples.true) in
-    (λ e. before_first c.args.trace.samples.now c.args.trace.sound c.args.span (not_from_Decides _ (decides_le_z c.args.span.end c.args.span.start) (sym c.if-is-empty.ensures)) lt, λ h. c.if-span-samples.true)
+    (λ e. before_first c.args.trace.samples.now c.args.trace.sound c.args.span (not_from_Decides _ (decides_le_z c.args.span.end c.args.span.start) (sym c.if-is_empty.ensures)) lt, λ h. c.if-span-samples.true)
 
 pub returns-else-span-samples : goal.returns-else-span-samples
 returns-else-span-samples c =
@@ -32,6 +32,6 @@ returns-else-span-samples c =
     let some : 0 < length c.args.trace.samples.now = omega arith in
     let no = not_from_Decides _ (decides_lt_z c.args.span.start (pos (at xs 0).time)) (simp (to_z-of_z, to_z_pos) at c.if-span-samples.false) in
     simp (to_z-of_z, to_z_pos) (
-      λ q. after_last xs c.args.trace.sound c.args.span (not_from_Decides _ (decides_le_z c.args.span.end c.args.span.start) (sym c.if-is-empty.ensures)) ((decides_lt_z _ _).0 q),
+      λ q. after_last xs c.args.trace.sound c.args.span (not_from_Decides _ (decides_le_z c.args.span.end c.args.span.start) (sym c.if-is_empty.ensures)) ((decides_lt_z _ _).0 q),
       λ h. elim (beyond_ends xs c.args.trace.sound c.args.span some h) [ inl a ↦ absurd (no a) | inr b ↦ (decides_lt_z _ _).1 b ],
     )

@@ -6,22 +6,22 @@ use Rattle.delivery.proofs.Sounds.{usable}
 use Rattle.delivery.proofs.Clocked.{on_clock_lem, valued}
 use Rattle.delivery.proofs.values.window_values.Goals as goal
 
-pub count-used-used-requires : goal.count-used-used-requires
-count-used-used-requires g c = (usable c.args.direction c.args.trace.samples.now c.args.trace.sound).rises
+pub count_used-used-requires : goal.count_used-used-requires
+count_used-used-requires g c = (usable c.args.direction c.args.trace.samples.now c.args.trace.sound).rises
 
-pub on-clock-requires : goal.on-clock-requires
-on-clock-requires g c = on_clock_lem c.args.trace.samples.now c.args.trace.sound c.args.first c.requires.stand.0 c.requires.stand.1.0
+pub on_clock-requires : goal.on_clock-requires
+on_clock-requires g c = on_clock_lem c.args.trace.samples.now c.args.trace.sound c.args.first c.requires.stand.0 c.requires.stand.1.0
 
-pub window-value-value-requires : goal.window-value-value-requires
-window-value-value-requires g c =
-    valued c.args.trace.samples.now c.args.trace.sound c.args.first c.requires.stand.0 c.requires.stand.1.0 c.args.direction (c.count-used-used.result - 0) c.on_clock_lem.result c.on_clock_lem.ensures c.requires.times.0
+pub window_value-value-requires : goal.window_value-value-requires
+window_value-value-requires g c =
+    valued c.args.trace.samples.now c.args.trace.sound c.args.first c.requires.stand.0 c.requires.stand.1.0 c.args.direction (c.count_used-used.result - 0) c.on_clock.result c.on_clock.ensures c.requires.times.0
 
-pub on-clock-requires-2 : goal.on-clock-requires-2
-on-clock-requires-2 g c =
-    let full = not_from_Decides _ (decides_le_z c.args.second.end c.args.second.start) (sym c.if-is-empty.ensures) in
+pub on_clock-requires-2 : goal.on_clock-requires-2
+on_clock-requires-2 g c =
+    let full = not_from_Decides _ (decides_le_z c.args.second.end c.args.second.start) (sym c.if-is_empty.ensures) in
     on_clock_lem c.args.trace.samples.now c.args.trace.sound c.args.second full c.requires.stand.1.1
 
-pub window-value-other-requires : goal.window-value-other-requires
-window-value-other-requires g c =
-    let full = not_from_Decides _ (decides_le_z c.args.second.end c.args.second.start) (sym c.if-is-empty.ensures) in
-    valued c.args.trace.samples.now c.args.trace.sound c.args.second full c.requires.stand.1.1 c.args.direction (c.count-used-used.result - 0) c.on-clock-2.result c.on-clock-2.ensures c.requires.times.1
+pub window_value-other-requires : goal.window_value-other-requires
+window_value-other-requires g c =
+    let full = not_from_Decides _ (decides_le_z c.args.second.end c.args.second.start) (sym c.if-is_empty.ensures) in
+    valued c.args.trace.samples.now c.args.trace.sound c.args.second full c.requires.stand.1.1 c.args.direction (c.count_used-used.result - 0) c.on_clock-2.result c.on_clock-2.ensures c.requires.times.1

@@ -10,57 +10,57 @@ pub loop-place-init : goal.loop-place-init
 loop-place-init g c = start c.requires.1.0.rises (omega arith) c.requires.0 c.requires.1.1
 
 pub compensated-v-requires : goal.compensated-v-requires
-compensated-v-requires g c = holds_at c.args.direction c.args.samples.now c.loop-place.place c.loop-place-test.true c.point-at-point.result c.point-at-point.ensures Tame c.requires.0.tame
+compensated-v-requires g c = holds_at c.args.direction c.args.samples.now c.loop-place.place c.loop-place-test.true c.point_at-point.result c.point_at-point.ensures Tame c.requires.0.tame
 
 pub loop-place-preserved-then-point-window : goal.loop-place-preserved-then-point-window
-loop-place-preserved-then-point-window g c = let h = here c.loop-place.invariant c.loop-place-test.true c.point-at-point.ensures c.compensated-v.ensures.is c.compensated-v.ensures.within in on c.loop-place.invariant (not_yet h c.if-point-window.true)
+loop-place-preserved-then-point-window g c = let h = here c.loop-place.invariant c.loop-place-test.true c.point_at-point.ensures c.compensated-v.ensures.is c.compensated-v.ensures.within in on c.loop-place.invariant (not_yet h c.if-point-window.true)
 
-pub straight-half-up-v0-requires : goal.straight-half-up-v0-requires
-straight-half-up-v0-requires g c = let h = here c.loop-place.invariant c.loop-place-test.true c.point-at-point.ensures c.compensated-v.ensures.is c.compensated-v.ensures.within in spans h c.if-point-window.false c.max-t0.ensures
+pub straight_half_up-v0-requires : goal.straight_half_up-v0-requires
+straight_half_up-v0-requires g c = let h = here c.loop-place.invariant c.loop-place-test.true c.point_at-point.ensures c.compensated-v.ensures.is c.compensated-v.ensures.within in spans h c.if-point-window.false c.max-t0.ensures
 
 -- ---- the window ends by this point
-pub straight-half-up-last-requires : goal.straight-half-up-last-requires
-straight-half-up-last-requires g c = let h = here c.loop-place.invariant c.loop-place-test.true c.point-at-point.ensures c.compensated-v.ensures.is c.compensated-v.ensures.within in spans_end h c.if-point-window.false c.max-t0.ensures c.if-window-point.true
+pub straight_half_up-last-requires : goal.straight_half_up-last-requires
+straight_half_up-last-requires g c = let h = here c.loop-place.invariant c.loop-place-test.true c.point_at-point.ensures c.compensated-v.ensures.is c.compensated-v.ensures.within in spans_end h c.if-point-window.false c.max-t0.ensures c.if-window-point.true
 
-pub overflow-sub-window : goal.overflow-sub-window
-overflow-sub-window g c = let h = here c.loop-place.invariant c.loop-place-test.true c.point-at-point.ensures c.compensated-v.ensures.is c.compensated-v.ensures.within in upto h c.if-point-window.false c.max-t0.ensures
+pub overflow_sub-window : goal.overflow_sub-window
+overflow_sub-window g c = let h = here c.loop-place.invariant c.loop-place-test.true c.point_at-point.ensures c.compensated-v.ensures.is c.compensated-v.ensures.within in upto h c.if-point-window.false c.max-t0.ensures
 
 pub strip-requires : goal.strip-requires
-strip-requires g c = let h = here c.loop-place.invariant c.loop-place-test.true c.point-at-point.ensures c.compensated-v.ensures.is c.compensated-v.ensures.within in let y = c.straight-half-up-v0.ensures in let x = c.straight-half-up-last.ensures in
+strip-requires g c = let h = here c.loop-place.invariant c.loop-place-test.true c.point_at-point.ensures c.compensated-v.ensures.is c.compensated-v.ensures.within in let y = c.straight_half_up-v0.ensures in let x = c.straight_half_up-last.ensures in
     ((first h c.if-point-window.false c.max-t0.ensures y.is y.within).within, (last h c.if-point-window.false c.max-t0.ensures y.is y.within c.if-window-point.true x.is x.within).within)
 
-pub overflow-add-result : goal.overflow-add-result
-overflow-add-result g c = let h = here c.loop-place.invariant c.loop-place-test.true c.point-at-point.ensures c.compensated-v.ensures.is c.compensated-v.ensures.within in let y = c.straight-half-up-v0.ensures in let x = c.straight-half-up-last.ensures in
+pub overflow_add-result : goal.overflow_add-result
+overflow_add-result g c = let h = here c.loop-place.invariant c.loop-place-test.true c.point_at-point.ensures c.compensated-v.ensures.is c.compensated-v.ensures.within in let y = c.straight_half_up-v0.ensures in let x = c.straight_half_up-last.ensures in
     (sum_last h c.if-point-window.false c.max-t0.ensures y.is y.within c.if-window-point.true x.is x.within c.loop-place.invariant.small c.strip.ensures).fits
 
 pub returns-then-window-point : goal.returns-then-window-point
-returns-then-window-point g c = let h = here c.loop-place.invariant c.loop-place-test.true c.point-at-point.ensures c.compensated-v.ensures.is c.compensated-v.ensures.within in let y = c.straight-half-up-v0.ensures in let x = c.straight-half-up-last.ensures in
+returns-then-window-point g c = let h = here c.loop-place.invariant c.loop-place-test.true c.point_at-point.ensures c.compensated-v.ensures.is c.compensated-v.ensures.within in let y = c.straight_half_up-v0.ensures in let x = c.straight_half_up-last.ensures in
     let s = sum_last h c.if-point-window.false c.max-t0.ensures y.is y.within c.if-window-point.true x.is x.within c.loop-place.invariant.small c.strip.ensures in record { is = s.is; within = s.within }
 
 -- ---- the window goes on
-pub overflow-sub-point : goal.overflow-sub-point
-overflow-sub-point g c = let h = here c.loop-place.invariant c.loop-place-test.true c.point-at-point.ensures c.compensated-v.ensures.is c.compensated-v.ensures.within in omega (arith, ahead h c.if-point-window.false c.max-t0.ensures)
+pub overflow_sub-point : goal.overflow_sub-point
+overflow_sub-point g c = let h = here c.loop-place.invariant c.loop-place-test.true c.point_at-point.ensures c.compensated-v.ensures.is c.compensated-v.ensures.within in omega (arith, ahead h c.if-point-window.false c.max-t0.ensures)
 
 pub strip-sum-requires : goal.strip-sum-requires
-strip-sum-requires g c = let h = here c.loop-place.invariant c.loop-place-test.true c.point-at-point.ensures c.compensated-v.ensures.is c.compensated-v.ensures.within in let y = c.straight-half-up-v0.ensures in ((first h c.if-point-window.false c.max-t0.ensures y.is y.within).within, h.within)
+strip-sum-requires g c = let h = here c.loop-place.invariant c.loop-place-test.true c.point_at-point.ensures c.compensated-v.ensures.is c.compensated-v.ensures.within in let y = c.straight_half_up-v0.ensures in ((first h c.if-point-window.false c.max-t0.ensures y.is y.within).within, h.within)
 
-pub overflow-add-sum : goal.overflow-add-sum
-overflow-add-sum g c = let h = here c.loop-place.invariant c.loop-place-test.true c.point-at-point.ensures c.compensated-v.ensures.is c.compensated-v.ensures.within in let y = c.straight-half-up-v0.ensures in
+pub overflow_add-sum : goal.overflow_add-sum
+overflow_add-sum g c = let h = here c.loop-place.invariant c.loop-place-test.true c.point_at-point.ensures c.compensated-v.ensures.is c.compensated-v.ensures.within in let y = c.straight_half_up-v0.ensures in
     (sum_more h c.if-point-window.false c.max-t0.ensures y.is y.within c.loop-place.invariant.small c.if-window-point.false c.strip-sum.ensures).fits
 
 pub loop-place-preserved : goal.loop-place-preserved
-loop-place-preserved g c = let h = here c.loop-place.invariant c.loop-place-test.true c.point-at-point.ensures c.compensated-v.ensures.is c.compensated-v.ensures.within in let y = c.straight-half-up-v0.ensures in
+loop-place-preserved g c = let h = here c.loop-place.invariant c.loop-place-test.true c.point_at-point.ensures c.compensated-v.ensures.is c.compensated-v.ensures.within in let y = c.straight_half_up-v0.ensures in
     on c.loop-place.invariant (again h c.if-point-window.false c.max-t0.ensures y.is y.within c.loop-place.invariant.small c.if-window-point.false c.strip-sum.ensures)
 
 -- ---- after the last point
-pub overflow-sub-window-2 : goal.overflow-sub-window-2
-overflow-sub-window-2 g c = end_upto c.loop-place.invariant c.loop-place-test.false c.max.ensures
+pub overflow_sub-window-2 : goal.overflow_sub-window-2
+overflow_sub-window-2 g c = end_upto c.loop-place.invariant c.loop-place-test.false c.max.ensures
 
 pub strip-requires-2 : goal.strip-requires-2
 strip-requires-2 g c = let w = c.loop-place.invariant.walked.onto.within in (w, w)
 
-pub overflow-add-result-2 : goal.overflow-add-result-2
-overflow-add-result-2 g c = (sum_end c.loop-place.invariant c.loop-place-test.false c.max.ensures c.strip-2.ensures).fits
+pub overflow_add-result-2 : goal.overflow_add-result-2
+overflow_add-result-2 g c = (sum_end c.loop-place.invariant c.loop-place-test.false c.max.ensures c.strip-2.ensures).fits
 
 pub returns : goal.returns
 returns g c = let s = sum_end c.loop-place.invariant c.loop-place-test.false c.max.ensures c.strip-2.ensures in record { is = s.is; within = s.within }

@@ -17,7 +17,7 @@ returns-in-Some c =
     record { answers = h; is = answers_unique xs (Some d) (disturbance_of xs) h (worked_out xs c.args.trace.sound) }
 
 pub loop-k-preserved : goal.loop-k-preserved
-loop-k-preserved c = below_more _ _ c.loop-k.invariant (not_leaving c.args.trace.samples.now c.args.trace.sound c.loop-k.k c.in-default.ensures)
+loop-k-preserved c = below_more _ _ c.loop-k.invariant (not_leaving c.args.trace.samples.now c.args.trace.sound c.loop-k.k c.in_default.ensures)
 
 pub returns : goal.returns
 returns c =

@@ -4,8 +4,8 @@ use Rattle.disturbance.proofs.disturbance.leaving_time.Goals as goal
 
 pub unwrap-requires : goal.unwrap-requires
 unwrap-requires c =
-    leaving_some c.args.direction c.args.a c.args.b (record { times = omega arith; high = omega arith; inside = c.requires.sides.0; beyond = c.requires.sides.1 }) c.first-past-edge.result c.first-past-edge.ensures
+    leaving_some c.args.direction c.args.a c.args.b (record { times = omega arith; high = omega arith; inside = c.requires.sides.0; beyond = c.requires.sides.1 }) c.first_past_edge.result c.first_past_edge.ensures
 
 pub returns : goal.returns
 returns c =
-    leaving_from c.args.direction c.args.a c.args.b (record { times = omega arith; high = omega arith; inside = c.requires.sides.0; beyond = c.requires.sides.1 }) c.first-past-edge.result c.unwrap.result c.unwrap.ensures c.first-past-edge.ensures
+    leaving_from c.args.direction c.args.a c.args.b (record { times = omega arith; high = omega arith; inside = c.requires.sides.0; beyond = c.requires.sides.1 }) c.first_past_edge.result c.unwrap.result c.unwrap.ensures c.first_past_edge.ensures

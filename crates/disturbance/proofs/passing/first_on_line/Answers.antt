@@ -5,13 +5,13 @@ use Rattle.disturbance.specs.Passing.{Passes}
 use Rattle.disturbance.proofs.Times.{next_time}
 use Rattle.disturbance.proofs.Scans.{scan_start, scan_turn, scan_end, scan_found, between_first, between_none}
 use Rattle.disturbance.proofs.passing.first_on_line.Goals as goal
-use Rattle.disturbance.proofs.passing.first_on_line.Goals.{then-from-b+in-default, else-from-b}
+use Rattle.disturbance.proofs.passing.first_on_line.Goals.{then-from-b+in_default, else-from-b}
 
 pub loop-k-init : goal.loop-k-init
 loop-k-init c = λ u le ge l. scan_start c.args.trace.samples.now c.args.trace.sound (Passes c.args.direction c.args.level c.args.above) u le l
 
-pub first-between-requires : goal.first-between-requires
-first-between-requires c =
+pub first_between-requires : goal.first_between-requires
+first_between-requires c =
     let xs = c.args.trace.samples.now in
     let a = c.args.trace.sound.1 (c.loop-k.k - 1) (omega arith) in
     let b = c.args.trace.sound.1 c.loop-k.k c.loop-k-test.true in
@@ -33,7 +33,7 @@ loop-k-preserved c =
     let e : k + 1 - 1 ≡ k = omega arith in
     simp e (scan_turn xs c.args.trace.sound P c.args.from k c.loop-k-test.true c.loop-k.invariant
     (elim c.if-from-b.branch [
-      | then-from-b+in-default w ↦ between_none _ _ _ (at xs (k - 1)) (at xs k) c.args.from w.max-start.result w.max-start.ensures w.in-default.ensures
+      | then-from-b+in_default w ↦ between_none _ _ _ (at xs (k - 1)) (at xs k) c.args.from w.max-start.result w.max-start.ensures w.in_default.ensures
       | else-from-b w ↦ λ u ge after until p. omega (arith, w.if-from-b.false)
     ]))
 

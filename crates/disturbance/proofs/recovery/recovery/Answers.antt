@@ -8,6 +8,6 @@ pub returns : goal.returns
 returns c =
     let xs = c.args.trace.samples.now in
     let d = c.args.disturbance in
-    let r = c.first-above.result in
-    let h : FirstOrNone (Recovered xs d) r = recovery_from xs c.args.trace.sound d r (simp c.other.ensures at c.first-above.ensures) in
+    let r = c.first_above.result in
+    let h : FirstOrNone (Recovered xs d) r = recovery_from xs c.args.trace.sound d r (simp c.other.ensures at c.first_above.ensures) in
     record { first = h; only = λ o k. answer_unique (Recovered xs d) o r k h }

@@ -6,4 +6,4 @@ use Rattle.docket.proofs.closing.counted_disturbance.Goals as goal
 pub returns : goal.returns
 returns c =
     let e : c.args.count - 0 ≡ c.args.count = omega arith in
-    c.find-disturbance.ensures.is ∙ ap (λ (k : ℕ). disturbance_of (take k c.args.table.now)) e
+    c.find_disturbance.ensures.is ∙ ap (λ (k : ℕ). disturbance_of (take k c.args.table.now)) e

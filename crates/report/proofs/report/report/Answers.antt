@@ -10,8 +10,8 @@ returns c =
     let n = c.new-recording.ensures in
     let s = c.summarize-outcome.ensures in
     let ms = members_of c.new-recording.result.make c.new-recording.result.bytes.now in
-    let size = c.as-mut-slice.ensures.len ∙ c.in-ok-table.ensures.len in
+    let size = c.as_mut_slice.ensures.len ∙ c.in_ok-table.ensures.len in
     record {
-      text = made_as c.outcome-text.result (λ x is. reports bytes _ ms c.summarize-outcome.result size n.members s.outcome (string_bytes x) is) c.outcome-text.ensures;
-      only = made_as c.outcome-text.result (λ x is. only_report bytes _ ms c.summarize-outcome.result size n.only s.only (string_bytes x) is) c.outcome-text.ensures;
+      text = made_as c.outcome_text.result (λ x is. reports bytes _ ms c.summarize-outcome.result size n.members s.outcome (string_bytes x) is) c.outcome_text.ensures;
+      only = made_as c.outcome_text.result (λ x is. only_report bytes _ ms c.summarize-outcome.result size n.only s.only (string_bytes x) is) c.outcome_text.ensures;
     }

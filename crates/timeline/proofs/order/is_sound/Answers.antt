@@ -14,19 +14,19 @@ returns-then-count-table g c =
     let e = unsound_by g.E.Entry.kind c.args.count c.args.table.now (omega arith) in
     record { value = e; sound = Decides-at _ _ e (decides_sound g.E.Entry.kind _ _) }
 
-pub returns-then-is-some : goal.returns-then-is-some
-returns-then-is-some g c =
+pub returns-then-is_some : goal.returns-then-is_some
+returns-then-is_some g c =
     let kind = g.E.Entry.kind in
-    let fits = c.if-is-some.ensures ∙ ap is_some c.outside.ensures in
+    let fits = c.if-is_some.ensures ∙ ap is_some c.outside.ensures in
     let broken = turn_outside kind c.loop-x.before c.loop-x.x-index _ c.x-item.result c.loop-x-test.true c.x-item.is c.loop-x.invariant.1 fits in
     let e = sound_by kind c.args.count c.args.table.now false (omega arith) (rw (none_less c.args.count) at broken) in
     record { value = e; sound = Decides-at _ _ e (decides_sound kind _ _) }
 
-pub returns-then-is-misplaced : goal.returns-then-is-misplaced
-returns-then-is-misplaced g c =
+pub returns-then-is_misplaced : goal.returns-then-is_misplaced
+returns-then-is_misplaced g c =
     let kind = g.E.Entry.kind in
-    let fits = c.if-is-some.ensures ∙ ap is_some c.outside.ensures in
-    let later = c.if-is-misplaced.ensures ∙ ap (misplaced c.loop-x.before None) c.time-time.ensures in
+    let fits = c.if-is_some.ensures ∙ ap is_some c.outside.ensures in
+    let later = c.if-is_misplaced.ensures ∙ ap (misplaced c.loop-x.before None) c.time-time.ensures in
     let broken = turn_misplaced kind c.loop-x.before c.loop-x.x-index _ c.x-item.result c.loop-x-test.true c.x-item.is c.loop-x.invariant.1 fits later in
     let e = sound_by kind c.args.count c.args.table.now false (omega arith) (rw (none_less c.args.count) at broken) in
     record { value = e; sound = Decides-at _ _ e (decides_sound kind _ _) }
@@ -35,8 +35,8 @@ pub loop-x-preserved : goal.loop-x-preserved
 loop-x-preserved g c =
     let kind = g.E.Entry.kind in
     let xs = take (c.args.count - 0) c.args.table.now in
-    let fits = c.if-is-some.ensures ∙ ap is_some c.outside.ensures in
-    let later = c.if-is-misplaced.ensures ∙ ap (misplaced c.loop-x.before None) c.time-time.ensures in
+    let fits = c.if-is_some.ensures ∙ ap is_some c.outside.ensures in
+    let later = c.if-is_misplaced.ensures ∙ ap (misplaced c.loop-x.before None) c.time-time.ensures in
     let more = turn_more kind c.loop-x.before c.loop-x.x-index xs c.x-item.result c.loop-x-test.true c.x-item.is c.loop-x.invariant.1 fits later in
     (omega arith, ap (λ t. ordered_after kind (Some t) (drop (c.loop-x.x-index + 1) xs)) c.time-time.ensures ∙ more)
 

@@ -3,5 +3,5 @@ use Rattle.timeline.proofs.timeline.Timeline.amend.Goals as goal
 
 pub returns : goal.returns
 returns g c =
-    amend_accepted g.E.Entry.kind c.args.self.count c.args.self.table.now c.args.place c.args.e c.amend-fault.result c.amend-fault.ensures.first c.amend-fault.ensures.value
-    (no_fault _ _ _ c.amend-fault.result c.in-ok-allow.ensures)
+    amend_accepted g.E.Entry.kind c.args.self.count c.args.self.table.now c.args.place c.args.e c.amend_fault.result c.amend_fault.ensures.first c.amend_fault.ensures.value
+    (no_fault _ _ _ c.amend_fault.result c.in_ok-allow.ensures)

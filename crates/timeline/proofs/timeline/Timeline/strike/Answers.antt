@@ -3,5 +3,5 @@ use Rattle.timeline.proofs.timeline.Timeline.strike.Goals as goal
 
 pub returns : goal.returns
 returns g c =
-    strike_accepted g.E.Entry.kind c.args.self.count c.args.self.table.now c.args.place _ c.strike-fault.result c.strike-fault.ensures.first c.strike-fault.ensures.value
-    (no_fault _ _ _ c.strike-fault.result c.in-ok-allow.ensures) c.move-down.ensures
+    strike_accepted g.E.Entry.kind c.args.self.count c.args.self.table.now c.args.place _ c.strike_fault.result c.strike_fault.ensures.first c.strike_fault.ensures.value
+    (no_fault _ _ _ c.strike_fault.result c.in_ok-allow.ensures) c.move_down.ensures
