@@ -4,6 +4,7 @@ use crate::records::*;
 use recording::sample::Sample;
 use response::service::Service;
 use response::settings::Proposal;
+use std::test::Fail;
 
 // Plain settings with another base window.
 fn based(samples: &[Sample], base_begin: u32, base_end: u32) -> Case<'_> {

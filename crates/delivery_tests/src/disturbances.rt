@@ -5,6 +5,7 @@ use disturbance::disturbance::find_disturbance;
 use disturbance::trace::{Trace, is_sound};
 use recording::sample::Sample;
 use response::service::Service;
+use std::test::Fail;
 
 fn undisturbed(samples: &[Sample]) -> bool {
     is_sound(samples) && find_disturbance(Trace { samples }).is_none()

@@ -5,6 +5,7 @@ use crate::records::*;
 use figure::report::Verdict;
 use response::service::Service;
 use response::settings::Proposal;
+use std::test::Fail;
 
 #[test]
 fn fast_services(rt: HostRuntime) -> Result<(), Fail> {
@@ -18,13 +19,14 @@ fn fast_services(rt: HostRuntime) -> Result<(), Fail> {
         variable(plain(&fallen(at(20_101, 50_250, 1_000)), Service::R6)),
         16,
     )?;
+    // across the start
     let across = [
         at(5_000, 50_000, 0),
         at(19_999, 49_850, 0),
         at(20_050, 49_750, 1_000),
         at(20_100, 50_250, 1_000),
     ];
-    refuses(&rt, variable(plain(&across, Service::R6)), 16).note("across the start")
+    refuses(&rt, variable(plain(&across, Service::R6)), 16)
 }
 
 // Level at 2,000 W with weight 1, times 2.

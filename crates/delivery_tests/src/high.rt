@@ -3,6 +3,7 @@ use crate::asking::*;
 use crate::records::*;
 use response::service::Service;
 use response::settings::Proposal;
+use std::test::Fail;
 
 // As the low record: (24,990 + 26,000)/75 = 679.87, times 2.
 #[test]

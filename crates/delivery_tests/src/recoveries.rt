@@ -6,6 +6,7 @@ use crate::records::*;
 use figure::report::Verdict;
 use response::service::Service;
 use response::settings::Proposal;
+use std::test::Fail;
 
 // 26 ms level at 1,000 W, whatever the power of the next sample: (24,990 + 26,000)/75 = 679.87, times 2.
 #[test]

@@ -5,6 +5,7 @@ use figure::report::Claim;
 use recording::sample::Sample;
 use response::service::Service;
 use response::settings::Proposal;
+use std::test::Fail;
 use timeline::target::Target;
 
 const FAR_TRIGGER: Proposal = Proposal {

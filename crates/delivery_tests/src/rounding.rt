@@ -7,6 +7,7 @@ use figure::report::Verdict;
 use recording::sample::Sample;
 use response::service::Service;
 use response::weighing::Weight;
+use std::test::Fail;
 
 // A base of a quarter of a power; the last power before the window lasts through it, from 26,001 to
 // 26,002.

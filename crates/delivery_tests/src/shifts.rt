@@ -5,6 +5,7 @@ use crate::rules::*;
 use recording::sample::Sample;
 use response::service::Service;
 use response::settings::Proposal;
+use std::test::Fail;
 
 // Plain settings with another rate.
 fn rated(rate: u32, samples: &[Sample]) -> Case<'_> {

@@ -6,6 +6,7 @@ use recording::sample::Sample;
 use response::service::Service;
 use response::settings::Proposal;
 use std::process::Abort;
+use std::test::Fail;
 use timeline::target::Target;
 
 // A delivery with targets is refused.

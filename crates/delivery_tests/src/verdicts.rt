@@ -7,6 +7,7 @@ use figure::report::{Claim, Verdict};
 use recording::sample::Sample;
 use response::service::Service;
 use response::weighing::Weight;
+use std::test::Fail;
 
 fn enabled(samples: &[Sample], service: Service, enabled: i64) -> Case<'_> {
     Case {

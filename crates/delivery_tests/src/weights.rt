@@ -6,6 +6,7 @@ use recording::sample::Sample;
 use response::service::Service;
 use response::settings::Proposal;
 use response::weighing::Weight;
+use std::test::Fail;
 
 // 1,359.73 at weight 1, so 2,719.47 at 2 and 2,039.6 at 3/2. With the window from 20,020 on 1,678.57 at
 // weight 1, so 3,357.14 at 2.

@@ -4,6 +4,7 @@ use crate::long::*;
 use crate::records::*;
 use figure::report::Verdict;
 use response::service::Service;
+use std::test::Fail;
 
 // The weight is 1 for 400 ms, grows by 1/8 at each sample to 3 at 1,200 ms and stays: from 100,000 W to
 // 300,000 W, (50,000 + 800,000 + 3,000,000 + 96 * 300,000 + 150,000)/120 = 273,333.33, times 2. Then

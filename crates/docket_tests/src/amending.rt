@@ -1,6 +1,7 @@
 // Replacing the sample at a place.
 use crate::expected::*;
 use docket::docket::OpenDocket;
+use std::test::Fail;
 
 #[test]
 fn a_neighbours_time_is_refused(rt: HostRuntime) -> Result<(), Fail> {

@@ -5,6 +5,7 @@ use disturbance::direction::Direction;
 use docket::docket::{ClosedDocket, Kept, OpenDocket};
 use recording::sample::Sample;
 use std::process::Abort;
+use std::test::Fail;
 
 // The docket is closed, with the disturbance at the time, on the low side or the high one.
 fn closes(
@@ -26,7 +27,8 @@ fn closes(
             Ok(closed)
         }
         Err(Kept { docket: _, refusal }) => {
-            is_refusal(rt, refusal, 0, 0).note("a disturbance was expected")?;
+            // no refusal has the number 0, so the assertion shows which one came in place of a disturbance
+            is_refusal(rt, refusal, 0, 0)?;
             Err(Fail::new("a disturbance was expected"))
         }
     }

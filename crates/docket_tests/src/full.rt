@@ -4,6 +4,7 @@ use crate::records::*;
 use docket::docket::OpenDocket;
 use recording::sample::Sample;
 use std::alloc::{AllocError, Global};
+use std::test::Fail;
 
 // A recording of so many steady members, one every 100 ms.
 fn long_recording(heap: Global, members: u16) -> Result<Vec<u8>, AllocError> {

@@ -5,6 +5,7 @@ use docket::docket::OpenDocket;
 use recording::makes::{ByteRecording, Make};
 use recording::sample::Sample;
 use std::process::Abort;
+use std::test::Fail;
 
 // No place of the table was written, and the docket has no sample: one of time 0 may be put.
 fn is_untouched(

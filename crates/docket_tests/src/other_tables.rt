@@ -4,6 +4,7 @@ use crate::records::*;
 use docket::docket::{Kept, OpenDocket};
 use recording::sample::Sample;
 use std::process::Abort;
+use std::test::Fail;
 
 // Every call on the table is refused, whatever else is wrong with it. Put tells the count, 3; amend and
 // strike tell the place given; load tells none.

@@ -2,6 +2,7 @@
 use crate::expected::*;
 use docket::docket::OpenDocket;
 use recording::reading::{FloatingReading, Reading};
+use std::test::Fail;
 
 #[test]
 fn samples_are_added_at_the_end(rt: HostRuntime) -> Result<(), Fail> {

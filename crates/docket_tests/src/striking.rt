@@ -1,6 +1,7 @@
 // Taking a sample out.
 use crate::expected::*;
 use docket::docket::OpenDocket;
+use std::test::Fail;
 
 // The later ones move down by one; the former last one still stands at the new count's place.
 #[test]
