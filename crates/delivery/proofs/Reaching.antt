@@ -1,7 +1,6 @@
 -- A window that begins before the first sample begins before every one; one that ends after the last ends after every one.
-use Rattle.std.proofs.Common.{ℕ, ◌-◌, ◌<◌, ◌≤◌, ◌⊎◌, List, length, ℤ, pos, ◌≤ℤ◌, ◌<ℤ◌, inl, inr, arith}
+use Rattle.std.proofs.Common.{ℕ, ◌-◌, ◌<◌, ◌⊎◌, List, length, pos, ◌<ℤ◌, inl, inr, arith}
 use borrow.Author.Differences.{ints}
-use Rattle.std.specs.List.{AllByRecursion as All}
 use Rattle.recording.specs.declared.sample.Sample.{Sample}
 use Rattle.disturbance.specs.Trace.{at, Sound}
 use Rattle.figure.specs.declared.span.Span.{Span}

@@ -1,5 +1,5 @@
 -- The shift of a rule with a trigger.
-use Rattle.std.proofs.Common.{◌≡◌, ℕ, ℤ, pos, ◌-ℤ◌, Some, None, Option, ap, ◌∙◌}
+use Rattle.std.proofs.Common.{◌≡◌, ℕ, ℤ, pos, ◌-ℤ◌, Some, Option, ap, ◌∙◌}
 use Rattle.response.specs.declared.setup.Trigger.{Trigger}
 use Rattle.figure.specs.Windows.{ramp_time, shift_of}
 

@@ -1,5 +1,5 @@
 -- Tests of signed numbers tell the order.
-use Rattle.std.proofs.Common.{◌≡◌, true, ℤ, ◌≤ℤ◌, ◌<ℤ◌, Decides, sym, arith}
+use Rattle.std.proofs.Common.{ℤ, ◌≤ℤ◌, ◌<ℤ◌, Decides, sym, arith}
 use lib.Signed.{lt_z, le_z}
 use borrow.Author.Differences.{ints, true_is_lt, true_is_le}
 

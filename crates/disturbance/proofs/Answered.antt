@@ -1,5 +1,5 @@
 -- Recovery and trigger time from what a scan of the line finds.
-use Rattle.std.proofs.Common.{ℕ, ◌+◌, ◌-◌, ◌<◌, ◌≤◌, true, false, List, Some, None, Option, inl, inr, arith}
+use Rattle.std.proofs.Common.{ℕ, ◌+◌, ◌-◌, ◌≤◌, true, false, List, Some, None, Option, inl, inr, arith}
 use Rattle.std.proofs.lemmas.Bool.{cases_lt}
 use Rattle.exact.specs.First.{First, FirstOrNone}
 use Rattle.exact.proofs.First.{answer_as}
@@ -9,7 +9,7 @@ use Rattle.disturbance.specs.Trace.{Sound}
 use Rattle.disturbance.specs.Direction.{nominal}
 use Rattle.disturbance.specs.Recovery.{recovery_dip, Recovered}
 use Rattle.disturbance.specs.Trigger.{Before, Triggered}
-use Rattle.disturbance.specs.Passing.{turned, Passes, PassedFrom}
+use Rattle.disturbance.specs.Passing.{turned, PassedFrom}
 use Rattle.disturbance.proofs.Heights.{dip_under, dip_under_back, dip_least, dip_least_back, line_as}
 
 module _ (xs : List Sample) (s : Sound xs) (d : Disturbance) where

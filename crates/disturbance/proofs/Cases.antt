@@ -1,16 +1,16 @@
 -- The worked cases, by computing with the numbers.
-use Rattle.std.proofs.Common.{◌≡◌, ℕ, zero, suc, ◌+◌, ◌-◌, ◌<◌, ◌≤◌, List, pos, Some, None, refl, subst, arith}
+use Rattle.std.proofs.Common.{◌≡◌, ℕ, zero, suc, ◌+◌, ◌-◌, ◌<◌, ◌≤◌, Some, refl, subst, arith}
 use Rattle.std.proofs.lemmas.Int.{ints}
 use Rattle.exact.specs.First.{First}
-use Rattle.disturbance.specs.declared.direction.Direction.TheVariants.{Low, High}
+use Rattle.disturbance.specs.declared.direction.Direction.TheVariants.{Low}
 use Rattle.disturbance.specs.Trace.{at, Within, Sound}
 use Rattle.disturbance.specs.Direction.{dip}
 use Rattle.disturbance.specs.Line.{Under, AtLeast}
-use Rattle.disturbance.specs.Disturbance.{Leaves, Disturbed, Undisturbed, Answers, disturbance_from, disturbance_of}
+use Rattle.disturbance.specs.Disturbance.{Disturbed, Undisturbed, Answers, disturbance_from, disturbance_of}
 use Rattle.disturbance.specs.Recovery.{recovery_dip, Recovered}
 use Rattle.disturbance.specs.Trigger.{Triggered}
 use Rattle.disturbance.specs.Worked.{just_outside, across, record_a, disturbance_a, WorkedCases}
-use Rattle.disturbance.proofs.Heights.{Between, under_sum, sum_under, least_sum, sum_least}
+use Rattle.disturbance.proofs.Heights.{under_sum, sum_under, least_sum, sum_least}
 use Rattle.disturbance.proofs.Found.{worked_out}
 
 -- ---- sound records

@@ -6,7 +6,7 @@ use Rattle.recording.specs.declared.sample.Sample.{Sample}
 use Rattle.disturbance.specs.declared.disturbance.Disturbance.{Disturbance}
 use Rattle.disturbance.specs.Trace.{at, Sound}
 use Rattle.disturbance.specs.Band.{Inside, Beyond, Outside}
-use Rattle.disturbance.specs.Disturbance.{Leaves, LeavesBy, OutsideAfter, Disturbed, Undisturbed, Answers, leaving, or_else, disturbance_from, disturbance_of, DisturbanceLaws}
+use Rattle.disturbance.specs.Disturbance.{Leaves, LeavesBy, OutsideAfter, Disturbed, Answers, leaving, or_else, disturbance_from, disturbance_of, DisturbanceLaws}
 use Rattle.disturbance.proofs.Times.{next_time}
 use Rattle.disturbance.proofs.Scans.{line_here}
 use Rattle.disturbance.proofs.Leaving.{side_unique, beyond_outside, leaving_is}

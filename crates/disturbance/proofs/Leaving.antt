@@ -1,12 +1,11 @@
 -- The line from a sample inside to one outside.
-use Rattle.std.proofs.Common.{◌≡◌, ℕ, ◌+◌, ◌-◌, ◌*◌, ◌/◌, ◌<◌, ◌≤◌, Bool, true, false, cond, ◌&&◌, ltb, leb, ℤ, pos, ◌+ℤ◌, ◌*ℤ◌, ◌<ℤ◌, is_some, Some, None, Option, refl, ap, subst, inl, inr, mul-le-mul_right, arith, MatchOption}
+use Rattle.std.proofs.Common.{◌≡◌, ℕ, ◌+◌, ◌-◌, ◌*◌, ◌<◌, ◌≤◌, true, cond, ◌&&◌, ltb, leb, pos, ◌+ℤ◌, ◌*ℤ◌, ◌<ℤ◌, is_some, Some, None, Option, refl, subst, inl, inr, mul-le-mul_right, arith, MatchOption}
 use Rattle.std.proofs.lemmas.Int.{ints}
 use Rattle.std.proofs.lemmas.Bool.{some_since, cond_both, and_parts, and_cases, ltb-true, ltb-false, leb-true, leb-false}
 use Rattle.exact.specs.First.{First, FirstOrNone}
 use Rattle.recording.specs.declared.sample.Sample.{Sample}
 use Rattle.disturbance.specs.declared.direction.Direction.{Direction}
 use Rattle.disturbance.specs.declared.direction.Direction.TheVariants.{Low, High}
-use Rattle.disturbance.specs.declared.disturbance.Disturbance.{Disturbance}
 use Rattle.disturbance.specs.Band.{lowest, highest, Inside, Beyond, Outside}
 use Rattle.disturbance.specs.Passing.{Passes, ReachedBetween}
 use Rattle.disturbance.specs.Disturbance.{LeavesBy, leaves_to, leaving_time, timed, leaving}

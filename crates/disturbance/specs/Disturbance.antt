@@ -1,5 +1,5 @@
 -- The disturbance: when the line leaves the band, and on which side.
-use Rattle.std.specs.Prelude.{◌≡◌, ℕ, zero, suc, ◌+◌, ◌-◌, ◌*◌, ◌/◌, ◌<◌, ◌≤◌, Bool, cond, ◌&&◌, List, length, Some, None, Option, MatchOption, nat_le, nat_lt}
+use Rattle.std.specs.Prelude.{◌≡◌, ℕ, zero, suc, ◌+◌, ◌-◌, ◌*◌, ◌/◌, ◌<◌, ◌≤◌, cond, ◌&&◌, List, length, Some, None, Option, MatchOption, nat_le, nat_lt}
 use Rattle.exact.specs.First.{First}
 use Rattle.recording.specs.declared.sample.Sample.{Sample}
 use Rattle.disturbance.specs.declared.direction.Direction.{Direction}

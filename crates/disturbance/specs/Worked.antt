@@ -1,8 +1,8 @@
 -- Worked cases.
-use Rattle.std.specs.Prelude.{◌≡◌, ℕ, List, [], ◌∷◌, pos, Some, None}
+use Rattle.std.specs.Prelude.{ℕ, List, [], ◌∷◌, pos, Some}
 use Rattle.exact.specs.First.{First}
 use Rattle.recording.specs.declared.sample.Sample.{Sample}
-use Rattle.disturbance.specs.declared.direction.Direction.TheVariants.{Low, High}
+use Rattle.disturbance.specs.declared.direction.Direction.TheVariants.{Low}
 use Rattle.disturbance.specs.declared.disturbance.Disturbance.{Disturbance}
 use Rattle.disturbance.specs.Trace.{Sound}
 use Rattle.disturbance.specs.Disturbance.{Disturbed, Undisturbed}

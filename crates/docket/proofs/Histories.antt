@@ -1,5 +1,5 @@
 -- What every history keeps: the accepted samples are in order and have their places.
-use Rattle.std.proofs.Common.{◌≡◌, ℕ, ◌+◌, ◌<◌, ◌≤◌, Bool, true, false, cond, ◌||◌, List, [], ◌∷◌, ◌++◌, length, get_or, take, drop, set, Some, None, Ok, Err, Option, Result, sym, refl, ap, ◌∙◌, subst, append_assoc, append-nil, arith, length-append, length-set}
+use Rattle.std.proofs.Common.{◌≡◌, ℕ, ◌+◌, ◌<◌, ◌≤◌, Bool, true, false, ◌||◌, List, [], ◌∷◌, ◌++◌, length, Some, None, Ok, Err, Option, Result, sym, refl, ap, ◌∙◌, subst, append_assoc, append-nil, arith, length-append, length-set}
 use Rattle.std.specs.List.{remove}
 use Rattle.recording.specs.declared.refusal.Field.{Field}
 use Rattle.recording.specs.declared.refusal.Reason.{Reason}
@@ -9,10 +9,10 @@ use Rattle.recording.specs.declared.reading.Reading.{Reading}
 use Rattle.recording.specs.declared.fault.Unreadable.{Unreadable}
 use Rattle.recording.specs.declared.interface.Member.{Member}
 use Rattle.recording.specs.Readings.{time_of, sampled}
-use Rattle.timeline.specs.Checks.{Check, first_of}
+use Rattle.timeline.specs.Checks.{first_of}
 use Rattle.timeline.specs.Samples.{samples}
 use Rattle.timeline.specs.Orders.{Ordered, time_before, time_after, misplaced}
-use Rattle.timeline.specs.Faults.{append_faults, strike_faults}
+use Rattle.timeline.specs.Faults.{strike_faults}
 use Rattle.timeline.proofs.Checks.{none_found}
 use Rattle.timeline.proofs.Orders.{ordered_push, ordered_set, ordered_removed}
 use Rattle.timeline.proofs.Faults.{none_outside, append_room}
@@ -20,7 +20,7 @@ use Rattle.disturbance.specs.declared.disturbance.Disturbance.{Disturbance}
 use Rattle.disturbance.specs.Disturbance.{disturbance_of}
 use Rattle.docket.specs.Reasons.{readings, field_outside, samples_in, sample_list, replaced, amended, put_reasons, amend_reasons}
 use Rattle.docket.specs.Loading.{member_reasons, member_samples, all_samples, time_in, located, or_else, load_fault}
-use Rattle.docket.specs.Accepted.{Accepted, opened, closed, kept, put_record, amend_record, strike_record, load_record, record_fault, marked, close_record}
+use Rattle.docket.specs.Accepted.{Accepted, opened, closed, kept, put_record, amend_record, strike_record, load_record, record_fault, marked}
 use Rattle.docket.specs.History.{History, new, put, load, amend, strike, close, reopen}
 use Rattle.std.proofs.lemmas.List.Edits.{length-remove}
 use Rattle.std.proofs.lemmas.Bool.{leb-false}

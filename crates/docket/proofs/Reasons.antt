@@ -13,7 +13,7 @@ use Rattle.timeline.specs.Checks.{Check, first_of}
 use Rattle.timeline.specs.Entries.{Kind}
 use Rattle.timeline.specs.Samples.{samples}
 use Rattle.timeline.specs.Orders.{is_sound, time_before, time_after}
-use Rattle.timeline.specs.Faults.{other_table, beyond_count, is_field, outside_limits, full, out_of_order, append_faults, put_checks, amend_checks, strike_checks}
+use Rattle.timeline.specs.Faults.{other_table, is_field, outside_limits, full, out_of_order, append_faults, put_checks, amend_checks, strike_checks}
 use Rattle.timeline.specs.Timelines.{answered, written, Outcome, Puts, Amends}
 use Rattle.timeline.proofs.Checks.{Told, the_first}
 use Rattle.timeline.proofs.Orders.{decides_leb, decides_misplaced}

@@ -1,7 +1,6 @@
 -- The accepted record: a list of samples and a mark, worked out from the calls, their arguments and the number of the table's places alone.
-use Rattle.std.specs.Prelude.{ℕ, List, [], ◌∷◌, ◌++◌, length, Some, None, Ok, Err, Option, Result}
+use Rattle.std.specs.Prelude.{ℕ, List, ◌++◌, length, Some, None, Ok, Err, Option, Result}
 use Rattle.std.specs.List.{remove}
-use Rattle.recording.specs.declared.refusal.Reason.{Reason}
 use Rattle.recording.specs.declared.refusal.Reason.TheVariants.{NoDisturbance}
 use Rattle.recording.specs.declared.refusal.Refusal.{Refusal}
 use Rattle.recording.specs.declared.sample.Sample.{Sample}

@@ -1,15 +1,13 @@
 -- How a docket and its table stand, and what each call leaves of them.
 use Rattle.std.specs.Prelude.{◌≡◌, ℕ, ◌≤◌, cond, List, ◌∷◌, ◌++◌, length, take, Some, None, Ok, Err, Option, Result}
-use Rattle.recording.specs.declared.refusal.Reason.{Reason}
 use Rattle.recording.specs.declared.refusal.Reason.TheVariants.{OtherTable, NoDisturbance}
 use Rattle.recording.specs.declared.refusal.Refusal.{Refusal}
 use Rattle.recording.specs.declared.sample.Sample.{Sample}
 use Rattle.recording.specs.declared.reading.Reading.{Reading}
 use Rattle.recording.specs.declared.interface.Member.{Member}
 use Rattle.recording.specs.Refusals.{refusal}
-use Rattle.timeline.specs.Checks.{Check}
 use Rattle.timeline.specs.Samples.{samples}
-use Rattle.timeline.specs.Orders.{is_sound, time_before}
+use Rattle.timeline.specs.Orders.{is_sound}
 use Rattle.timeline.specs.Faults.{other_table}
 use Rattle.timeline.specs.Timelines.{Outcome, over}
 use Rattle.disturbance.specs.declared.disturbance.Disturbance.{Disturbance}
@@ -18,8 +16,8 @@ use Rattle.docket.specs.declared.docket.OpenDocket.{OpenDocket}
 use Rattle.docket.specs.declared.docket.ClosedDocket.{ClosedDocket}
 use Rattle.docket.specs.declared.docket.Kept.{Kept}
 use Rattle.docket.specs.Reasons.{samples_in, amended, put_reasons, amend_reasons}
-use Rattle.docket.specs.Loading.{load_fault, all_samples}
-use Rattle.docket.specs.Accepted.{Accepted, opened, closed, record_fault, counted, kept}
+use Rattle.docket.specs.Loading.{all_samples}
+use Rattle.docket.specs.Accepted.{Accepted, opened, closed, record_fault, counted}
 use Rattle.docket.specs.History.{History}
 
 -- ---- a history leads to a docket and a table as they stand

@@ -1,5 +1,5 @@
 -- Half-up: the whole number that a fraction is rounded to.
-use Rattle.std.specs.Prelude.{◌≡◌, ℕ, ◌*◌, ℤ, pos, ◌+ℤ◌, ◌*ℤ◌, ◌≤ℤ◌}
+use Rattle.std.specs.Prelude.{◌≡◌, ◌*◌, ℤ, pos, ◌+ℤ◌, ◌*ℤ◌, ◌≤ℤ◌}
 use Rattle.std.specs.Int.{int_div_euclid}
 use Rattle.exact.specs.Fractions.{Fraction, whole, frac, ◌⊕◌, ◌≼◌}
 

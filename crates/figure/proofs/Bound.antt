@@ -1,5 +1,5 @@
 -- Each step of the delivery with its error, in hundredths of the step's unit.
-use Rattle.std.proofs.Common.{ℕ, ◌+◌, ◌-◌, ◌*◌, ◌<◌, ◌≤◌, List, [], ◌∷◌, Some, None, Option, mul-le-mul_left, arith}
+use Rattle.std.proofs.Common.{ℕ, ◌+◌, ◌-◌, ◌*◌, ◌≤◌, List, [], ◌∷◌, Some, None, Option, mul-le-mul_left, arith}
 use Rattle.exact.specs.Fractions.{Fraction}
 use Rattle.exact.proofs.Near.{Near, near_refl, near_more, near_trans, near-⊕, near-⊖, near-·, near-÷, near_lesser, near_greater}
 use Rattle.exact.proofs.Rounding.{half_up_near}

@@ -4,7 +4,7 @@ use borrow.Author.Differences.{ints}
 use Rattle.std.proofs.lemmas.Int.{clamps}
 use Rattle.std.proofs.lemmas.Bool.{leb-true, le-leb}
 use Rattle.std.proofs.lemmas.Bool.Decides.{Decides-and}
-use Rattle.exact.specs.Fractions.{whole, ◌·◌, ◌÷◌}
+use Rattle.exact.specs.Fractions.{whole}
 use Rattle.exact.proofs.Near.{near-·, near-÷, near_equal, equal_near}
 use Rattle.exact.proofs.Rounding.{half_up_value}
 use Rattle.exact.proofs.Averages.{line_level, average_level}

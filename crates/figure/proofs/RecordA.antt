@@ -10,10 +10,8 @@ use Rattle.recording.specs.declared.refusal.Reason.TheVariants.{WideGap}
 use Rattle.recording.specs.declared.refusal.Refusal.{Refusal}
 use Rattle.recording.specs.Refusals.{refusal}
 use Rattle.recording.specs.Samples.{greatest_power}
-use Rattle.recording.specs.declared.sample.Sample.{Sample}
 use Rattle.timeline.specs.Checks.{FirstFault}
 use Rattle.disturbance.specs.declared.direction.Direction.TheVariants.{Low}
-use Rattle.disturbance.specs.declared.disturbance.Disturbance.{Disturbance}
 use Rattle.disturbance.specs.Crossing.{rounded_up}
 use Rattle.disturbance.specs.Trace.{at}
 use Rattle.disturbance.specs.Trigger.{Triggered}
@@ -31,9 +29,9 @@ use Rattle.figure.specs.declared.report.Verdict.TheVariants.{Met, Level, Short}
 use Rattle.figure.specs.declared.span.Span.{Span}
 use Rattle.figure.specs.Points.{course}
 use Rattle.figure.specs.Steps.{Weights, Case, to_half_up, base_points, base_push, compensated, used_points, value_of, value_in, first_value, second_value, or_none, lesser_of}
-use Rattle.figure.specs.Windows.{Empty, ramp_start, shift_of, on_clock, unless_empty}
+use Rattle.figure.specs.Windows.{Empty, ramp_start, on_clock, unless_empty}
 use Rattle.figure.specs.Asked.{Asked, TriggerTime, shift_in, first_span, second_span, case_of}
-use Rattle.figure.specs.Defects.{NeverTriggered, Beyond, Shares, Gapped, AtShift, defects}
+use Rattle.figure.specs.Defects.{Beyond, Shares, Gapped, AtShift, defects}
 use Rattle.figure.specs.Reports.{Judged, Reports, AnswerIs, Delivers}
 use Rattle.figure.proofs.Shifted.{shift_triggers, at_shift}
 use Rattle.figure.specs.Worked.{asked_of_a, report_of_a, plain_at, plainly, once, twice, WorkedDeliveries}

@@ -4,7 +4,7 @@ use Rattle.std.proofs.lemmas.Bool.{ltb-true, and_parts}
 use Rattle.exact.specs.Averages.{Climbs}
 use Rattle.recording.specs.declared.sample.Sample.{Sample}
 use Rattle.disturbance.specs.declared.direction.Direction.{Direction}
-use Rattle.disturbance.specs.Trace.{at, Rising, Sound}
+use Rattle.disturbance.specs.Trace.{Rising, Sound}
 use Rattle.figure.specs.declared.point.Point.{Point}
 use Rattle.figure.specs.Points.{course, After, Rises}
 use Rattle.figure.specs.Steps.{inside}

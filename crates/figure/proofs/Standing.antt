@@ -1,5 +1,5 @@
 -- Where no defect applies, the windows stand on the clock of the record.
-use Rattle.std.proofs.Common.{◌≡◌, ℕ, ◌+◌, ◌<◌, ◌≤◌, Bool, true, false, cond, List, [], ◌∷◌, ℤ, pos, negsuc, ◌<ℤ◌, Some, None, Option, refl, inl, inr, arith}
+use Rattle.std.proofs.Common.{◌≡◌, ℕ, ◌+◌, ◌≤◌, Bool, true, false, cond, List, [], ◌∷◌, ℤ, pos, negsuc, ◌<ℤ◌, Some, None, Option, refl, inl, inr, arith}
 use lib.Signed.{le_z}
 use borrow.Author.Differences.{up, down, ints}
 use Rattle.std.specs.List.{AllByRecursion as All}

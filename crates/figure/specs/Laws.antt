@@ -1,5 +1,5 @@
 -- What holds of the figure, in words of its subject.
-use Rattle.std.specs.Prelude.{◌≡◌, ℕ, ◌+◌, ◌-◌, ◌*◌, ◌<◌, ◌≤◌, true, List, length, ℤ, pos, ◌+ℤ◌, ◌-ℤ◌, ◌≤ℤ◌, Some, None, Ok, Decides, Option, Result}
+use Rattle.std.specs.Prelude.{◌≡◌, ℕ, ◌-◌, ◌*◌, ◌<◌, ◌≤◌, List, length, ℤ, pos, ◌-ℤ◌, ◌≤ℤ◌, Some, None, Ok, Decides, Option, Result}
 use Rattle.std.specs.List.{AllZip}
 use Rattle.exact.specs.First.{First, FirstOrNone}
 use Rattle.exact.specs.Fractions.{Fraction, whole, ◌·◌, ◌÷◌}
@@ -11,7 +11,6 @@ use Rattle.disturbance.specs.Trigger.{Before}
 use Rattle.response.specs.declared.base.BaseWindow.{BaseWindow}
 use Rattle.response.specs.declared.group.Window.{Window}
 use Rattle.response.specs.declared.setup.Trigger.{Trigger}
-use Rattle.response.specs.Groups.{SoundWindow}
 use Rattle.response.specs.Groups.{Sound as SoundRow}
 use Rattle.response.specs.Limits.{IsRate}
 use Rattle.figure.specs.declared.point.Point.{Point}

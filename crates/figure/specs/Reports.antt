@@ -1,6 +1,6 @@
 -- The report of a delivery, and the answer to what is asked: the report, or the first defect.
 use Rattle.std.specs.Prelude.{◌≡◌, ℕ, ℤ, ◌<ℤ◌, Some, None, Ok, Err, Option, Result}
-use Rattle.exact.specs.Fractions.{Fraction, whole}
+use Rattle.exact.specs.Fractions.{whole}
 use Rattle.recording.specs.declared.refusal.Reason.{Reason}
 use Rattle.recording.specs.declared.refusal.Refusal.{Refusal}
 use Rattle.recording.specs.Refusals.{refusal}
@@ -8,7 +8,7 @@ use Rattle.timeline.specs.Checks.{FirstFault}
 use Rattle.figure.specs.declared.report.Report.{Report}
 use Rattle.figure.specs.declared.report.Verdict.{Verdict}
 use Rattle.figure.specs.declared.report.Verdict.TheVariants.{Met, Level, Short}
-use Rattle.figure.specs.Steps.{Case, to_half_up, first_value, second_value, delivery, or_none}
+use Rattle.figure.specs.Steps.{to_half_up, first_value, second_value, delivery, or_none}
 use Rattle.figure.specs.Asked.{Asked, Times, shift_in, case_of}
 use Rattle.figure.specs.Defects.{defects}
 

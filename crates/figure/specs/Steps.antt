@@ -1,6 +1,6 @@
 -- The steps of the delivered figure, over a rounding. They are in hundredths of a watt up to the value of a window, which is in watts.
 -- T is the disturbance time, r the rounding of every step: half-up in the delivery, none in the exact delivery.
-use Rattle.std.specs.Prelude.{ℕ, ◌+◌, ◌-◌, Bool, true, false, cond, ◌&&◌, List, [], ◌∷◌, ℤ, pos, ◌*ℤ◌, Some, None, filter, Option, nat_le, nat_lt}
+use Rattle.std.specs.Prelude.{ℕ, ◌+◌, ◌-◌, Bool, true, cond, ◌&&◌, List, [], ◌∷◌, ℤ, pos, ◌*ℤ◌, Some, None, filter, Option, nat_le, nat_lt}
 use Rattle.exact.specs.Fractions.{Fraction, whole, ◌⊕◌, ◌⊖◌, ◌·◌, ◌÷◌, lesser, greater}
 use Rattle.exact.specs.Rounding.{half_up}
 use Rattle.exact.specs.Lines.{line}

@@ -1,5 +1,5 @@
 -- Windows on the clock of the record: shifted, and cut at recovery.
-use Rattle.std.specs.Prelude.{ℕ, ◌-◌, ◌*◌, ◌<◌, ◌≤◌, Bool, cond, ℤ, pos, ◌+ℤ◌, ◌-ℤ◌, ◌≤ℤ◌, Some, None, Option, int_le}
+use Rattle.std.specs.Prelude.{ℕ, ◌-◌, ◌*◌, ◌<◌, ◌≤◌, cond, ℤ, pos, ◌+ℤ◌, ◌-ℤ◌, ◌≤ℤ◌, Some, None, Option, int_le}
 use borrow.Author.Differences.{up}
 use Rattle.std.specs.Int.{int_min}
 use Rattle.disturbance.specs.Crossing.{rounded_up}

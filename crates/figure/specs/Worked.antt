@@ -1,5 +1,5 @@
 -- Worked deliveries on the four samples of the worked record.
-use Rattle.std.specs.Prelude.{◌≡◌, ℕ, List, [], ℤ, pos, Some, None, Ok, Err, Option}
+use Rattle.std.specs.Prelude.{◌≡◌, ℕ, [], pos, Some, None, Ok, Err, Option}
 use Rattle.std.proofs.Common.{arith}
 use Rattle.recording.specs.declared.refusal.Reason.TheVariants.{WideGap}
 use Rattle.recording.specs.Refusals.{refusal}
@@ -10,7 +10,7 @@ use Rattle.response.specs.declared.settings.Settings.{Settings}
 use Rattle.response.specs.declared.setup.Trigger.{Trigger}
 use Rattle.response.specs.Settings.{numbers_of, plain_numbers}
 use Rattle.response.specs.VariableRule.{variable}
-use Rattle.response.specs.Weights.{Factor, one}
+use Rattle.response.specs.Weights.{one}
 use Rattle.figure.specs.declared.report.Report.{Report}
 use Rattle.figure.specs.declared.report.Verdict.{Verdict}
 use Rattle.figure.specs.declared.report.Verdict.TheVariants.{Met, Level, Short}

@@ -1,8 +1,8 @@
 -- The variable rule has one ramp dip and one weight, and its factor has the weight's value.
-use Rattle.std.proofs.Common.{◌≡◌, ℕ, ◌+◌, ◌-◌, ◌*◌, ◌<◌, ◌≤◌, min, max, true, false, cond, leb, ℤ, pos, negsuc, ◌≤ℤ◌, refl, ap, ⊎_elim, mul-le-mul_right, arith}
+use Rattle.std.proofs.Common.{◌≡◌, ℕ, ◌+◌, ◌-◌, ◌*◌, ◌<◌, ◌≤◌, min, max, leb, ℤ, pos, negsuc, ◌≤ℤ◌, refl, ap, ⊎_elim, mul-le-mul_right, arith}
 use borrow.Author.Differences.{up, down, ints}
 use Rattle.std.proofs.lemmas.Bool.{cond_both, cases_lt, leb-true, leb-false}
-use Rattle.exact.specs.Fractions.{Fraction, whole, frac, ◌⊖◌, ◌÷◌, ◌≼◌, ◌≺◌, Equal}
+use Rattle.exact.specs.Fractions.{Fraction, whole, frac, ◌⊖◌, ◌÷◌, ◌≼◌, Equal}
 use Rattle.exact.proofs.Naturals.{Reads, reads_self, reads_whole, reads-⊕, reads-⊖, ≼-in, ≼-out}
 use Rattle.exact.proofs.Lines.{≺-out}
 use Rattle.exact.proofs.Order.{reads_over, reads_by, ≼-≼, ≺-≼, ≼-≺, ≼-or-≺}

@@ -1,6 +1,5 @@
 -- The worked weights: the factor is computed, and the weight is the only one with its value.
 use Rattle.std.proofs.Common.{◌≡◌, ℕ, ◌*◌, ◌<◌, pos, refl, arith}
-use Rattle.exact.specs.Fractions.{Fraction, frac}
 use Rattle.exact.proofs.Naturals.{≼-in}
 use Rattle.exact.proofs.Order.{reads_over, ≼-≼}
 use Rattle.response.specs.Weights.{Factor}

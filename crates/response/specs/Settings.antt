@@ -1,5 +1,4 @@
 -- Which settings exist, the plain ones, and a change of the base window.
-use Rattle.std.specs.Prelude.{◌≡◌, ℕ}
 use Rattle.response.specs.declared.base.BaseWindow.{BaseWindow}
 use Rattle.response.specs.declared.settings.Proposal.{Proposal}
 use Rattle.response.specs.declared.settings.Settings.{Settings}

@@ -1,5 +1,5 @@
 -- Worked weights: the variable rule with plain settings, 2,000 ms after the disturbance.
-use Rattle.std.specs.Prelude.{ℕ, ℤ, pos}
+use Rattle.std.specs.Prelude.{ℕ, pos}
 use Rattle.exact.specs.Fractions.{Fraction, frac, Equal}
 use Rattle.response.specs.Settings.{plain_numbers}
 use Rattle.response.specs.VariableRule.{VariableWeight}

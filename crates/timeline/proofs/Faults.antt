@@ -9,7 +9,7 @@ use Rattle.recording.specs.declared.refusal.Reason.{Reason}
 use Rattle.timeline.specs.Checks.{Check, first_of}
 use Rattle.timeline.specs.Entries.{Kind}
 use Rattle.timeline.specs.Orders.{time_before, is_sound}
-use Rattle.timeline.specs.Faults.{other_table, is_field, outside, full, out_of_order, outside_limits, append_faults, put_faults}
+use Rattle.timeline.specs.Faults.{other_table, is_field, full, out_of_order, outside_limits, append_faults, put_faults}
 use Rattle.timeline.proofs.Checks.{Told, none_found}
 use Rattle.timeline.proofs.Orders.{decides_leb, decides_misplaced, decides_sound, before_take}
 

@@ -1,4 +1,4 @@
-use Rattle.std.proofs.Common.{◌≡◌, false, sym, refl, inr}
+use Rattle.std.proofs.Common.{false, sym, refl, inr}
 use Rattle.std.proofs.lemmas.Bool.Decides.{not_from_Decides}
 use Rattle.delivery.proofs.Signs.{decides_le_z}
 use Rattle.delivery.proofs.defects.span_defect.Goals as goal

@@ -1,11 +1,11 @@
-use Rattle.std.proofs.Common.{◌≡◌, ℤ, sym, refl, ap, ◌∙◌, subst, w64, SFits, to_z, of_z, rules}
+use Rattle.std.proofs.Common.{ℤ, ap, ◌∙◌, subst, w64, SFits, to_z, of_z, rules}
 use Rattle.std.proofs.lemmas.Int.{to_z-of_z}
 use Rattle.response.specs.declared.group.Row.{Row}
 use Rattle.response.specs.declared.service.Side.{Side}
 use Rattle.response.specs.Groups.{row_of}
 use Rattle.response.specs.Groups.{Sound as SoundRow}
 use Rattle.response.specs.Services.{listed}
-use Rattle.figure.specs.Asked.{Asked, asked_by, asked_for}
+use Rattle.figure.specs.Asked.{Asked, asked_by}
 use Rattle.figure.proofs.Once.{one_answer}
 use Rattle.delivery.proofs.Answering.{claimed, made_faithful}
 use Rattle.delivery.proofs.deliver.deliver.Goals as goal

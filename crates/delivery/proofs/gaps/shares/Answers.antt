@@ -1,5 +1,4 @@
-use Rattle.std.proofs.Common.{◌≡◌, ◌^◌, ◌<◌, sym, ◌∙◌, subst, arith, w32, w64, Fits, SFits, rules}
-use lib.Signed.{lt_z}
+use Rattle.std.proofs.Common.{◌^◌, ◌<◌, ◌∙◌, arith, w64, SFits, rules}
 use Rattle.std.proofs.lemmas.Int.{to_z-of_z, to_z_pos}
 use Rattle.delivery.proofs.Signs.{decides_lt_z}
 use Rattle.delivery.proofs.gaps.shares.Goals as goal

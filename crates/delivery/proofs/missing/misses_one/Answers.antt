@@ -1,4 +1,4 @@
-use Rattle.std.proofs.Common.{◌≡◌, ℕ, ◌<◌, true, false, length, sym, refl, subst, arith, below_more}
+use Rattle.std.proofs.Common.{◌≡◌, ℕ, true, false, refl, subst, arith, below_more}
 use Rattle.std.proofs.lemmas.List.{length-map}
 use Rattle.std.proofs.lemmas.Bool.Decides.{not_from_Decides}
 use Rattle.figure.specs.declared.point.Point.{Point}

@@ -1,7 +1,5 @@
-use Rattle.std.proofs.Common.{◌≡◌, ◌^◌, ◌<◌, pos, ◌-ℤ◌, refl, arith, w32, Fits, rules}
+use Rattle.std.proofs.Common.{arith, w32, Fits, rules}
 use Rattle.std.proofs.lemmas.Int.{ints}
-use Rattle.exact.specs.Limits.{Within}
-use Rattle.exact.proofs.Limits.{within_in}
 use Rattle.delivery.proofs.Shifting.{shift_is}
 use Rattle.delivery.proofs.shift.shift.Goals as goal
 

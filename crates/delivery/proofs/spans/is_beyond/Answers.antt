@@ -1,7 +1,6 @@
-use Rattle.std.proofs.Common.{◌≡◌, ℕ, ◌-◌, ◌^◌, ◌<◌, Bool, true, false, List, [], length, pos, ◌≤ℤ◌, ◌<ℤ◌, sym, refl, ap, ◌∙◌, subst, inl, inr, arith, w64, SFits, rules}
-use lib.Signed.{lt_z}
+use Rattle.std.proofs.Common.{◌-◌, ◌^◌, ◌<◌, length, pos, ◌<ℤ◌, sym, refl, subst, inl, inr, arith, w64, SFits, rules}
 use Rattle.std.proofs.lemmas.List.{nil_from_length}
-use Rattle.std.proofs.lemmas.Int.{ints, to_z-of_z, to_z_pos}
+use Rattle.std.proofs.lemmas.Int.{to_z-of_z, to_z_pos}
 use Rattle.std.proofs.lemmas.Bool.Decides.{not_from_Decides}
 use Rattle.std.specs.List.{AllByRecursion as All}
 use Rattle.recording.specs.declared.sample.Sample.{Sample}

@@ -1,5 +1,4 @@
-use Rattle.std.proofs.Common.{◌≡◌, ◌-◌, sym}
-use lib.Signed.{le_z}
+use Rattle.std.proofs.Common.{◌-◌, sym}
 use Rattle.std.proofs.lemmas.Bool.Decides.{not_from_Decides}
 use Rattle.delivery.proofs.Signs.{decides_le_z}
 use Rattle.delivery.proofs.Sounds.{usable}

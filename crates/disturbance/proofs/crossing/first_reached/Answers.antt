@@ -1,4 +1,4 @@
-use Rattle.std.proofs.Common.{◌+◌, ◌-◌, ◌*◌, ◌<◌, ◌≤◌, mul-le-mul, arith}
+use Rattle.std.proofs.Common.{◌-◌, ◌*◌, ◌≤◌, mul-le-mul, arith}
 use Rattle.disturbance.proofs.Quotients.{Steps, rounded_steps, Crosses, never_reached, crossing_climbs, crossing_base, crossing_within, crossing_first}
 use Rattle.disturbance.proofs.crossing.first_reached.Goals as goal
 

@@ -1,4 +1,4 @@
-use Rattle.std.proofs.Common.{ℕ, Some, None, arith, below_more}
+use Rattle.std.proofs.Common.{Some, None, arith, below_more}
 use Rattle.disturbance.specs.Disturbance.{Disturbed, Undisturbed, disturbance_of}
 use Rattle.disturbance.proofs.Times.{next_time}
 use Rattle.disturbance.proofs.Found.{disturbed_at, not_leaving, answers_unique, worked_out}

@@ -1,5 +1,4 @@
-use Rattle.std.proofs.Common.{◌≡◌, ℕ, ◌+◌, ◌-◌, arith}
-use Rattle.recording.specs.declared.sample.Sample.{Sample}
+use Rattle.std.proofs.Common.{◌≡◌, ◌+◌, ◌-◌, arith}
 use Rattle.disturbance.specs.Trace.{at}
 use Rattle.disturbance.specs.Passing.{Passes}
 use Rattle.disturbance.proofs.Times.{next_time}

@@ -1,4 +1,4 @@
-use Rattle.std.proofs.Common.{◌^◌, ◌≤◌, mul-le-mul, arith}
+use Rattle.std.proofs.Common.{mul-le-mul, arith}
 use Rattle.disturbance.proofs.passing.goal_of.Goals as goal
 
 pub overflow_add-result : goal.overflow_add-result

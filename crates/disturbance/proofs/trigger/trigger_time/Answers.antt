@@ -1,4 +1,4 @@
-use Rattle.std.proofs.Common.{◌≡◌, ℕ, true, false, ◌≢◌, Some, None, Option, refl}
+use Rattle.std.proofs.Common.{Some, None, refl}
 use Rattle.std.proofs.lemmas.Bool.{both_ways}
 use Rattle.exact.proofs.First.{answer_unique}
 use Rattle.disturbance.specs.Trigger.{Triggered}
