@@ -1,10 +1,12 @@
 -- The variable rule: its weight as a rule about fractions, and the factor that has that value.
 use Rattle.std.specs.Prelude.{◌≡◌, ℕ, ◌+◌, ◌-◌, ◌*◌, ◌<◌, min, max, cond, ℤ, pos, negsuc, ◌≤ℤ◌, nat_le}
 use Rattle.std.proofs.Common.{arith}
-use Rattle.exact.specs.Fractions.{Fraction, whole, frac, ◌⊕◌, ◌⊖◌, ◌÷◌, ◌≼◌, ◌≺◌, Equal}
+use Rattle.exact.specs.Fractions.{Fraction, whole, frac, ◌⊕◌, ◌⊖◌, ◌÷◌, ◌≼◌, ◌≺◌}
 use Rattle.response.specs.declared.variable.Variable.{Variable}
 use Rattle.response.specs.Limits.{IsReference, IsDeadBand}
 use Rattle.response.specs.Weights.{Factor, one, value}
+-- equal as numbers
+pub use Rattle.exact.specs.Fractions.{Equal}
 
 -- 150 and offset × rate ÷ 1,000
 abbrev pub ramped : (rate offset : ℕ) → Fraction

@@ -1,8 +1,8 @@
 -- Worked weights: the variable rule with plain settings, 2,000 ms after the disturbance.
 use Rattle.std.specs.Prelude.{ℕ, pos}
-use Rattle.exact.specs.Fractions.{Fraction, frac, Equal}
+use Rattle.exact.specs.Fractions.{Fraction, frac}
 use Rattle.response.specs.Settings.{plain_numbers}
-use Rattle.response.specs.VariableRule.{VariableWeight}
+use Rattle.response.specs.VariableRule.{Equal, VariableWeight}
 
 -- the weight at a dip is n over d
 abbrev pub PlainlyWeighs : (dip n d : ℕ) → Type 0

@@ -1,7 +1,7 @@
 -- The first fault of a checking order, by tests that tell.
-use Rattle.std.proofs.Common.{◌≡◌, ℕ, Bool, true, false, cond, ◌⊎◌, List, [], ◌∷◌, ◌++◌, map, Some, None, Decides, Option, sym, refl, ◌∙◌, inl, inr, arith}
+use Rattle.std.proofs.Common.{◌≡◌, ℕ, Bool, true, false, cond, ◌⊎◌, List, [], ◌∷◌, ◌++◌, Some, None, Decides, Option, sym, refl, ◌∙◌, inl, inr, arith}
 use Rattle.std.proofs.lemmas.Bool.Decides.{not_from_Decides}
-use Rattle.timeline.specs.Checks.{Fault, FirstFault, Check, fault_of, IsFirst, TheFirst, first_of}
+use Rattle.timeline.specs.Checks.{Fault, FirstFault, Check, IsFirst, TheFirst, first_of}
 
 -- each test tells whether its fault applies
 abbrev pub Told : {A : Type 0} → List (Check A) → Type 0
@@ -16,6 +16,33 @@ first_is : {A : Type 0} (cs : List (Check A)) → Told cs → IsFirst cs (first_
 first_is [] t = refl
 first_is (c ∷ cs) t = first_by c cs c.test t.0 (first_is cs t.1)
 
+first_once : {A : Type 0} (cs : List (Check A)) (r s : Option A) → IsFirst cs r → IsFirst cs s → s ≡ r
+first_once [] r s p q = q ∙ sym p
+first_once (c ∷ cs) r s (inl p) (inl q) = q.1 ∙ sym p.1
+first_once (c ∷ cs) r s (inl p) (inr q) = absurd (q.0 p.0)
+first_once (c ∷ cs) r s (inr p) (inl q) = absurd (p.0 q.0)
+first_once (c ∷ cs) r s (inr p) (inr q) = first_once cs r s p.1 q.1
+
+pub the_first : {A : Type 0} (cs : List (Check A)) → Told cs → TheFirst cs (first_of cs)
+the_first cs t = record { is = first_is cs t; only = λ s p. first_once cs (first_of cs) s (first_is cs t) p }
+
+pub the_first_at : {A : Type 0} (cs : List (Check A)) (r : Option A) → Told cs → r ≡ first_of cs → TheFirst cs r
+the_first_at cs r t e = rw e (the_first cs t)
+
+-- no test found its fault
+abbrev pub NoneFound : {A : Type 0} → List (Check A) → Type 0
+NoneFound [] = Unit {0}
+NoneFound (c ∷ cs) = (c.test ≡ false) × NoneFound cs
+
+none_found_by : {A : Type 0} (c : Check A) (cs : List (Check A)) (b : Bool) → cond b (Some c.answer) (first_of cs) ≡ None → (b ≡ false) × (first_of cs ≡ None)
+none_found_by c cs true e = let z : ◌≡◌ {A = ℕ} 0 1 = cc in absurd (omega arith)
+none_found_by c cs false e = (refl, e)
+
+pub none_found : {A : Type 0} (cs : List (Check A)) → first_of cs ≡ None → NoneFound cs
+none_found [] e = tt
+none_found (c ∷ cs) e = let p = none_found_by c cs c.test e in (p.0, none_found cs p.1)
+
+-- ---- faults with no test beside them
 -- there is one first fault
 pub first_fault_once : {A : Type 0} (fs : List (Fault A)) (r s : Option A) → FirstFault fs r → FirstFault fs s → s ≡ r
 first_fault_once [] r s p q = q ∙ sym p
@@ -38,22 +65,3 @@ pub first_behind : {A : Type 0} (fs gs : List (Fault A)) (r : Option A) → Firs
 first_behind [] gs r e h = h
 first_behind (f ∷ fs) gs r (inl p) h = let q = p.1 in let z : ◌≡◌ {A = ℕ} 0 1 = cc in absurd (omega arith)
 first_behind (f ∷ fs) gs r (inr p) h = inr (p.0, first_behind fs gs r p.1 h)
-
-pub the_first : {A : Type 0} (cs : List (Check A)) → Told cs → TheFirst cs (first_of cs)
-the_first cs t = record { is = first_is cs t; only = λ s p. first_fault_once (map fault_of cs) (first_of cs) s (first_is cs t) p }
-
-pub the_first_at : {A : Type 0} (cs : List (Check A)) (r : Option A) → Told cs → r ≡ first_of cs → TheFirst cs r
-the_first_at cs r t e = rw e (the_first cs t)
-
--- no test found its fault
-abbrev pub NoneFound : {A : Type 0} → List (Check A) → Type 0
-NoneFound [] = Unit {0}
-NoneFound (c ∷ cs) = (c.test ≡ false) × NoneFound cs
-
-none_found_by : {A : Type 0} (c : Check A) (cs : List (Check A)) (b : Bool) → cond b (Some c.answer) (first_of cs) ≡ None → (b ≡ false) × (first_of cs ≡ None)
-none_found_by c cs true e = let z : ◌≡◌ {A = ℕ} 0 1 = cc in absurd (omega arith)
-none_found_by c cs false e = (refl, e)
-
-pub none_found : {A : Type 0} (cs : List (Check A)) → first_of cs ≡ None → NoneFound cs
-none_found [] e = tt
-none_found (c ∷ cs) e = let p = none_found_by c cs c.test e in (p.0, none_found cs p.1)
