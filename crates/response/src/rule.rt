@@ -15,9 +15,9 @@ pub trait ResponseRule {
 
     fn trigger(&self) -> Option<Trigger>
         ensures answer { result ≡ triggers self.now }
-        ensures kept { self.now ≡ self.now };
+        ensures kept { self.exit.now ≡ self.entry.now };
 
     fn weight(&self, dip: Dip, offset: Offset) -> Weight
         ensures answer { Weighs result (weighs self.now dip.mhz offset.ms) }
-        ensures kept { self.now ≡ self.now };
+        ensures kept { self.exit.now ≡ self.entry.now };
 }

@@ -28,7 +28,7 @@ impl ResponseRule for Variable {
 
     fn weight(&self, dip: Dip, offset: Offset) -> Weight
         ensures answer { Weighs result (factor_of self.now dip.mhz offset.ms) }
-        ensures kept { self.now ≡ self.now }
+        ensures kept { self.exit.now ≡ self.entry.now }
         ensures rule { WeightOf self.now dip.mhz offset.ms (weight_value result) }
     {
         self.factor(dip, offset)
