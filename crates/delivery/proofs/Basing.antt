@@ -4,7 +4,7 @@ use lib.IntN.{+ℤ_assoc, +ℤ_idl, +ℤ_idr}
 use mir.Syntax.{w128}
 use borrow.Author.Differences.{ints, neg_is}
 use Rattle.std.specs.Int.{int_max}
-use Rattle.std.specs.List.{AllByRecursion as All}
+use Rattle.std.specs.List.{AllByRecursion}
 use Rattle.std.proofs.lemmas.Int.{clamps, to_z-of_z}
 use Rattle.std.proofs.ByRecursion.{All-get_or}
 use Rattle.std.proofs.lemmas.List.{drop_all}
@@ -35,7 +35,7 @@ turned_within Low power h = h
 turned_within High power h = let l = within_out h in within_in (omega (arith, neg_is power)) (omega (arith, neg_is power))
 
 -- the power of target i, turned and in hundredths: q is what it is turned to, r the hundredths
-pub aimed : (d : Direction) (gs : List Target) (i : ℕ) (g : Target) {q r : ℤ} → i < length gs → All Aimed gs → q ≡ push d (to_z w32 (of_z w32 (get_or gs i g).power)) → r ≡ to_z w64 (of_z w64 q) *ℤ pos 100 → Held 100000000000 r (push d (get_or gs i g).power *ℤ pos 100)
+pub aimed : (d : Direction) (gs : List Target) (i : ℕ) (g : Target) {q r : ℤ} → i < length gs → AllByRecursion Aimed gs → q ≡ push d (to_z w32 (of_z w32 (get_or gs i g).power)) → r ≡ to_z w64 (of_z w64 q) *ℤ pos 100 → Held 100000000000 r (push d (get_or gs i g).power *ℤ pos 100)
 aimed d gs i g {q} {r} lt h e f =
     let w = (All-get_or Aimed gs i g lt h).power_within in
     let l = within_out w in
@@ -62,11 +62,11 @@ push_in D gs = base_push to_half_up D.direction gs D.time
 pub record Added (D : Disturbance) (w : BaseWindow) (gs : List Target) (xs : List Sample) (i count : ℕ) (sum : ℤ) : Type 0 where
   pub adds : (n : ℤ) → Is (sum_of (push_in D gs) (base_points D.time w (drop i (course D.direction xs)))) n 1 → Is (sum_of (push_in D gs) (base_points D.time w (course D.direction xs))) (sum +ℤ n) 1
   pub counts : count + length (base_points D.time w (drop i (course D.direction xs))) ≡ length (base_points D.time w (course D.direction xs))
-  pub each : All (λ p. BeginsBy (λ g. g.time) p.time gs) (base_points D.time w (drop i (course D.direction xs)))
+  pub each : AllByRecursion (λ p. BeginsBy (λ g. g.time) p.time gs) (base_points D.time w (drop i (course D.direction xs)))
   pub few : count ≤ i
   pub limit : Within (300000000000 * count) sum
 
-pub start : {D : Disturbance} {w : BaseWindow} {gs : List Target} {xs : List Sample} → All (λ p. BeginsBy (λ g. g.time) p.time gs) (base_points D.time w (course D.direction xs)) → Added D w gs xs 0 0 (pos 0)
+pub start : {D : Disturbance} {w : BaseWindow} {gs : List Target} {xs : List Sample} → AllByRecursion (λ p. BeginsBy (λ g. g.time) p.time gs) (base_points D.time w (course D.direction xs)) → Added D w gs xs 0 0 (pos 0)
 start h = record { adds = λ n k. rw (+ℤ_idl n) k; counts = omega arith; each = h; few = omega arith; limit = within_in (omega arith) (omega arith) }
 
 module _ {D : Disturbance} {w : BaseWindow} {gs : List Target} {xs : List Sample} {i count : ℕ} {sum : ℤ} (h : Added D w gs xs i count sum) where
@@ -93,14 +93,14 @@ module _ {D : Disturbance} {w : BaseWindow} {gs : List Target} {xs : List Sample
         record {
           adds = λ n k. h.adds n (subst (λ (ks : List Point). Is (sum_of (push_in D gs) ks) n 1) (sym l) k);
           counts = subst (Counts count) l h.counts;
-          each = subst (All Knows) l h.each;
+          each = subst (AllByRecursion Knows) l h.each;
           few = omega (arith, h.few);
           limit = h.limit;
         }
 
     module _ (e : true ≡ is_base D.time w p) where
-      known : All Knows (p ∷ counted (drop (i + 1) ps))
-      known = subst (All Knows) (left true (sym e)) h.each
+      known : AllByRecursion Knows (p ∷ counted (drop (i + 1) ps))
+      known = subst (AllByRecursion Knows) (left true (sym e)) h.each
 
       pub this : BeginsBy (λ g. g.time) p.time gs
       this = known.0

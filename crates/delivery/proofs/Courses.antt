@@ -1,6 +1,6 @@
 -- The points of a record place by place, and in order of their times.
 use Rattle.std.proofs.Common.{◌≡◌, ℕ, zero, suc, ◌+◌, ◌<◌, ◌≤◌, List, [], ◌∷◌, length, get_or, take, drop, sym, ap, ◌∙◌, subst, arith}
-use Rattle.std.specs.List.{AllByRecursion as All}
+use Rattle.std.specs.List.{AllByRecursion}
 use Rattle.std.proofs.lemmas.List.{length-map, drop_more}
 use Rattle.std.proofs.ByRecursion.{All-get_or, All-weaker}
 use Rattle.recording.specs.declared.sample.Sample.{Sample}
@@ -17,21 +17,21 @@ module _ (d : Direction) (xs : List Sample) (i : ℕ) (lt : i < length xs) (p : 
   pub opens : drop i (course d xs) ≡ p ∷ drop (i + 1) (course d xs)
   opens = drop_more (course d xs) i origin inside ∙ ap (λ (x : Point). x ∷ drop (i + 1) (course d xs)) (sym e)
 
-  pub holds_at : (P : Point → Type 0) → All P (course d xs) → P p
+  pub holds_at : (P : Point → Type 0) → AllByRecursion P (course d xs) → P p
   holds_at P h = subst P (sym e) (All-get_or P (course d xs) i origin inside h)
 
 pub passed_all : (d : Direction) (xs : List Sample) (i : ℕ) → length xs ≤ i → length (course d xs) ≤ i
 passed_all d xs i le = omega (arith, length-map xs (turned d))
 
 -- ---- times that rise
-after_from : (t : ℕ) (ps : List Point) → After t ps → (l : ℕ) → l ≤ t → All (λ p. l < p.time) ps
+after_from : (t : ℕ) (ps : List Point) → After t ps → (l : ℕ) → l ≤ t → AllByRecursion (λ p. l < p.time) ps
 after_from t [] h l le = tt
 after_from t (p ∷ ps) h l le = (omega (arith, h.0), after_from p.time ps h.1 l (omega (arith, h.0)))
 
-pub after_strict : (t : ℕ) (ps : List Point) → After t ps → All (λ p. t < p.time) ps
+pub after_strict : (t : ℕ) (ps : List Point) → After t ps → AllByRecursion (λ p. t < p.time) ps
 after_strict t ps h = after_from t ps h t (omega arith)
 
-pub after_all : (t : ℕ) (ps : List Point) → After t ps → (l : ℕ) → l ≤ t → All (λ p. l ≤ p.time) ps
+pub after_all : (t : ℕ) (ps : List Point) → After t ps → (l : ℕ) → l ≤ t → AllByRecursion (λ p. l ≤ p.time) ps
 after_all t ps h l le = All-weaker (λ p. l < p.time) _ (λ p k. omega arith) ps (after_from t ps h l le)
 
 pub after_rises : (t : ℕ) (ps : List Point) → After t ps → Rises ps

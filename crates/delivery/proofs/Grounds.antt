@@ -1,6 +1,6 @@
 -- Where no early defect applies: what the base asks of the samples and the targets.
 use Rattle.std.proofs.Common.{◌≡◌, ℕ, ◌<◌, Bool, true, false, List, [], ◌∷◌, length, get_or, take, ℤ, None, Decides, sym, refl, subst, inl, inr, arith}
-use Rattle.std.specs.List.{AllByRecursion as All}
+use Rattle.std.specs.List.{AllByRecursion}
 use Rattle.std.proofs.ByRecursion.{All-from_get_or}
 use Rattle.std.proofs.lemmas.List.{get_or_default}
 use Rattle.std.proofs.lemmas.Bool.Decides.{not_from_Decides}
@@ -53,7 +53,7 @@ module _ (xs : List Sample) (sound : SoundTrace xs) (d : Disturbance) (base : Ba
 
   -- what the base asks
   pub grounds : (Usable (course d.direction xs) × (0 < length (base_points d.time base (course d.direction xs))))
-      × (All Aimed (take count table) × (BeginsBy (λ g. g.time) d.time (take count table) × All (λ p. BeginsBy (λ g. g.time) p.time (take count table)) (base_points d.time base (course d.direction xs))))
+      × (AllByRecursion Aimed (take count table) × (BeginsBy (λ g. g.time) d.time (take count table) × AllByRecursion (λ p. BeginsBy (λ g. g.time) p.time (take count table)) (base_points d.time base (course d.direction xs))))
   grounds =
       let ps = base_points d.time base (course d.direction xs) in (
         (usable d.direction xs sound, some_kept ps none.1.1.1.0),

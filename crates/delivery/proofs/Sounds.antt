@@ -2,7 +2,7 @@
 use Rattle.std.proofs.Common.{◌≡◌, ℕ, suc, ◌+◌, ◌<◌, ◌≤◌, Bool, true, false, cond, ◌||◌, ltb, List, [], ◌∷◌, length, get_or, take, pos, neg_ℤ, Some, None, Option, refl, subst, inl, inr, arith}
 use lib.Signed.{lt_z}
 use borrow.Author.Differences.{ints}
-use Rattle.std.specs.List.{AllByRecursion as All}
+use Rattle.std.specs.List.{AllByRecursion}
 use Rattle.std.proofs.lemmas.List.{take-map}
 use Rattle.std.proofs.ByRecursion.{All-from_get_or, All-map, All-take, All-weaker}
 use Rattle.std.proofs.lemmas.Bool.{ltb-false, cases_lt}
@@ -69,15 +69,15 @@ aim g e = by (ltb latest g.time) (lt_z g.power (neg_ℤ greatest_power)) (lt_z g
     by false false true p q r e = absurd (none_some e)
     by false false false p q r e = record { time_most = ltb-false latest g.time p; power_within = record { least = omega (arith, ints); most = omega (arith, ints) } }
 
-pub aims : (count : ℕ) (table : List Target) → Sound targets count table → All Aimed (take count table)
+pub aims : (count : ℕ) (table : List Target) → Sound targets count table → AllByRecursion Aimed (take count table)
 aims count table h = All-from_get_or Aimed (take count table) (record { time = 0; power = pos 0 }) (λ i lt. aim _ (h.ordered.within i _ lt))
 
 -- times that rise place by place, all after the first
-all_later : (g : Target) (gs : List Target) (t : ℕ) → t < g.time → ((i : ℕ) (d : Target) → i + 1 < length (g ∷ gs) → (get_or (g ∷ gs) i d).time < (get_or (g ∷ gs) (i + 1) d).time) → All (λ g. t < g.time) (g ∷ gs)
+all_later : (g : Target) (gs : List Target) (t : ℕ) → t < g.time → ((i : ℕ) (d : Target) → i + 1 < length (g ∷ gs) → (get_or (g ∷ gs) i d).time < (get_or (g ∷ gs) (i + 1) d).time) → AllByRecursion (λ g. t < g.time) (g ∷ gs)
 all_later g [] t lt h = (lt, tt)
 all_later g (k ∷ gs) t lt h = let first : g.time < k.time = h 0 g (omega arith) in (lt, all_later k gs t (omega arith) (λ i d less. subst (λ (n : ℕ). (get_or (k ∷ gs) i d).time < (get_or (g ∷ k ∷ gs) n d).time) (one_on i) (h (suc i) d (omega arith))))
 
 -- targets in order that are not all later than t begin by t
-pub begins : (t : ℕ) (gs : List Target) → Ordered targets gs → (All (λ g. t < g.time) gs → ⊥) → BeginsBy (λ g. g.time) t gs
+pub begins : (t : ℕ) (gs : List Target) → Ordered targets gs → (AllByRecursion (λ g. t < g.time) gs → ⊥) → BeginsBy (λ g. g.time) t gs
 begins t [] o n = tt
 begins t (g ∷ gs) o n = elim (cases_lt t g.time) [ inl lt ↦ absurd (n (all_later g gs t lt o.rising)) | inr le ↦ le ]

@@ -1,7 +1,7 @@
 -- Adding up the trapezoids of a window, point by point.
 use Rattle.std.proofs.Common.{◌≡◌, ℕ, ◌+◌, ◌-◌, ◌*◌, ◌^◌, ◌<◌, ◌≤◌, Bool, true, false, cond, ◌&&◌, ltb, List, [], ◌∷◌, drop, ℤ, pos, ◌+ℤ◌, ◌*ℤ◌, ap, ◌∙◌, subst, arith}
 use lib.IntN.{+ℤ_assoc, +ℤ_idl}
-use Rattle.std.specs.List.{AllByRecursion as All}
+use Rattle.std.specs.List.{AllByRecursion}
 use Rattle.std.proofs.ByRecursion.{All-weaker}
 use Rattle.std.proofs.lemmas.Bool.{lt-ltb, le-ltb}
 use Rattle.exact.specs.Wholes.{twice_area}
@@ -19,14 +19,14 @@ strip_within v w k h h' = within_more (omega arith) (within-* k (within-+ h h'))
 pub record Summed (z : Point → ℤ) (ps : List Point) (t t' : ℕ) (v v' : ℤ) (i t0 : ℕ) (v0 sum : ℤ) : Type 0 where
   pub adds : sum +ℤ twice_area (λ p. p.time) z t0 v0 (inside t t' (drop i ps)) t' v' ≡ twice_area (λ p. p.time) z t v (inside t t' ps) t' v'
   pub rises : Rises (drop i ps)
-  pub ahead : All (λ p. t < p.time → t0 < p.time) (drop i ps)
+  pub ahead : AllByRecursion (λ p. t < p.time → t0 < p.time) (drop i ps)
   pub from : t ≤ t0
   pub upto : t0 ≤ t'
   pub level : Within (2 ^ 42) v0
   pub limit : Within (2 ^ 43 * (t0 - t)) sum
 
 module _ (z : Point → ℤ) (ps : List Point) (t t' : ℕ) (v v' : ℤ) where
-  all_ahead : (ks : List Point) → All (λ p. t < p.time → t < p.time) ks
+  all_ahead : (ks : List Point) → AllByRecursion (λ p. t < p.time → t < p.time) ks
   all_ahead [] = tt
   all_ahead (p ∷ ks) = ((λ h. h), all_ahead ks)
 
@@ -45,8 +45,8 @@ module _ (z : Point → ℤ) (ps : List Point) (t t' : ℕ) (v v' : ℤ) where
       pub later : After p.time (drop (i + 1) ps)
       later = subst Rises opens h.rises
 
-      pub here : (t < p.time → t0 < p.time) × All (λ p. t < p.time → t0 < p.time) (drop (i + 1) ps)
-      here = subst (All (λ (p : Point). t < p.time → t0 < p.time)) opens h.ahead
+      pub here : (t < p.time → t0 < p.time) × AllByRecursion (λ p. t < p.time → t0 < p.time) (drop (i + 1) ps)
+      here = subst (AllByRecursion (λ (p : Point). t < p.time → t0 < p.time)) opens h.ahead
 
       -- p stands before the window
       pub passed : p.time ≤ t → Summed z ps t t' v v' (i + 1) t0 v0 sum

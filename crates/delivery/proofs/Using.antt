@@ -1,6 +1,6 @@
 -- The points that are used are the first ones.
 use Rattle.std.proofs.Common.{◌≡◌, ℕ, ◌+◌, ◌<◌, ◌≤◌, List, [], ◌∷◌, ◌++◌, length, get_or, take, drop, Some, None, sym, refl, ap, ◌∙◌, subst}
-use Rattle.std.specs.List.{AllByRecursion as All}
+use Rattle.std.specs.List.{AllByRecursion}
 use Rattle.std.proofs.lemmas.List.{drop_more, drop_all, drop-map, map_more, append-nil, append_assoc}
 use Rattle.exact.proofs.Tests.{pick, skip}
 use Rattle.recording.specs.declared.sample.Sample.{Sample}
@@ -16,7 +16,7 @@ all_used (p ∷ ps) = ap (λ (ks : List Point). p ∷ ks) (all_used ps)
 
 -- u is the time of recovery
 module _ (u : ℕ) where
-  none_used : (ps : List Point) → All (λ p. u ≤ p.time) ps → used_points (Some u) ps ≡ []
+  none_used : (ps : List Point) → AllByRecursion (λ p. u ≤ p.time) ps → used_points (Some u) ps ≡ []
   none_used [] h = refl
   none_used (p ∷ ps) h = skip p.time u _ _ h.0 ∙ none_used ps h.1
 

@@ -1,6 +1,6 @@
 -- One pass over the points finds the ends of a window and its area.
 use Rattle.std.proofs.Common.{◌≡◌, ℕ, ◌+◌, ◌-◌, ◌*◌, ◌^◌, ◌<◌, ◌≤◌, max, Bool, true, false, cond, ◌&&◌, ltb, List, [], ◌∷◌, length, drop, ℤ, pos, ◌+ℤ◌, ◌*ℤ◌, sym, refl, ap, ◌∙◌, subst, inl, inr, arith}
-use Rattle.std.specs.List.{AllByRecursion as All}
+use Rattle.std.specs.List.{AllByRecursion}
 use Rattle.std.proofs.lemmas.List.{drop_all}
 use Rattle.std.proofs.lemmas.Bool.{ltb-true, ltb-false, cases_lt, cond_both}
 use Rattle.exact.specs.Fractions.{whole}
@@ -22,23 +22,23 @@ use Rattle.delivery.proofs.Summing.{Summed}
 use Rattle.delivery.proofs.Summing as summing
 
 -- ---- the line's limit
-line_from_within : (A : ℕ) (z : Point → ℤ) (u t : ℕ) (v : ℤ) (ks : List Point) → t ≤ u → Within A v → All (λ p. Within A (z p)) ks → Within A (half_up (line_from (λ p. p.time) (λ p. whole (z p)) t (whole v) ks u))
+line_from_within : (A : ℕ) (z : Point → ℤ) (u t : ℕ) (v : ℤ) (ks : List Point) → t ≤ u → Within A v → AllByRecursion (λ p. Within A (z p)) ks → Within A (half_up (line_from (λ p. p.time) (λ p. whole (z p)) t (whole v) ks u))
 line_from_within A z u t v [] le h k = subst (Within A) (sym (half_up_of_whole v)) h
 line_from_within A z u t v (p ∷ ks) le h k = cond_both (ltb u p.time) _ _ (λ x. Within A (half_up x))
     (λ e. let lt = ltb-true u p.time e in
     subst (Within A) (sym (half_up_straight t p.time u v (z p) (omega arith))) (half_up_within A (p.time - t) _ (omega arith) (straight_within A t p.time u v (z p) le (omega arith) h k.0)))
     (λ e. line_from_within A z u p.time (z p) ks (ltb-false u p.time e) k.0 k.1)
 
-line_within : (A : ℕ) (z : Point → ℤ) (u : ℕ) (ks : List Point) → BeginsBy (λ p. p.time) u ks → All (λ p. Within A (z p)) ks → Within A (end_of z ks u)
+line_within : (A : ℕ) (z : Point → ℤ) (u : ℕ) (ks : List Point) → BeginsBy (λ p. p.time) u ks → AllByRecursion (λ p. Within A (z p)) ks → Within A (end_of z ks u)
 line_within A z u [] h k = subst (Within A) (sym (half_up_of_whole (pos 0))) (within_in (omega arith) (omega arith))
 line_within A z u (p ∷ ks) h k = line_from_within A z u p.time (z p) ks h k.0 k.1
 
 -- a line at the time of its first point, the next being later
-level_first : (z : Point → ℤ) (t : ℕ) (v : ℤ) (ks : List Point) → All (λ p. t < p.time) ks → half_up (line_from (λ p. p.time) (λ p. whole (z p)) t (whole v) ks t) ≡ v
+level_first : (z : Point → ℤ) (t : ℕ) (v : ℤ) (ks : List Point) → AllByRecursion (λ p. t < p.time) ks → half_up (line_from (λ p. p.time) (λ p. whole (z p)) t (whole v) ks t) ≡ v
 level_first z t v [] h = half_up_of_whole v
 level_first z t v (p ∷ ks) h = ap half_up (pick t p.time _ _ h.0) ∙ at_start t p.time v (z p) h.0
 
-none_inside : (a b : ℕ) (ks : List Point) → All (λ p. b ≤ p.time) ks → inside a b ks ≡ []
+none_inside : (a b : ℕ) (ks : List Point) → AllByRecursion (λ p. b ≤ p.time) ks → inside a b ks ≡ []
 none_inside a b [] h = refl
 none_inside a b (p ∷ ks) h = out (ltb a p.time) ∙ none_inside a b ks h.1
   where
@@ -52,12 +52,12 @@ pub record Walk (z : Point → ℤ) (ps : List Point) (a b i t1 : ℕ) (v1 sum :
   pub level : ℤ
   pub summed : Summed z ps a b (end_of z ps a) (end_of z ps b) i (max a t1) level sum
   pub before : t1 ≤ a → Reached (2 ^ 42) (λ p. p.time) z ps a i t1 v1 × (level ≡ end_of z ps a)
-  pub after : a < t1 → (level ≡ v1) × All (λ p. t1 < p.time) (drop i ps)
+  pub after : a < t1 → (level ≡ v1) × AllByRecursion (λ p. t1 < p.time) (drop i ps)
 
 abbrev At : (z : Point → ℤ) (ps : List Point) (a b i t0 : ℕ) (x sum : ℤ) → Type 0
 At z ps a b i t0 x sum = Summed z ps a b (end_of z ps a) (end_of z ps b) i t0 x sum
 
-pub start : (z : Point → ℤ) (ps : List Point) (a b : ℕ) → a < b → Rises ps → All (λ p. Within (2 ^ 42) (z p)) ps → BeginsBy (λ p. p.time) a ps → Walk z ps a b 0 0 (pos 0) (pos 0)
+pub start : (z : Point → ℤ) (ps : List Point) (a b : ℕ) → a < b → Rises ps → AllByRecursion (λ p. Within (2 ^ 42) (z p)) ps → BeginsBy (λ p. p.time) a ps → Walk z ps a b 0 0 (pos 0) (pos 0)
 start z ps a b lt r w h = record {
   onto = reach.start (λ p. p.time) z ps b (begins_later (λ p. p.time) a b ps (omega arith) h);
   level = end_of z ps a;
@@ -82,7 +82,7 @@ module _ {z : Point → ℤ} {ps : List Point} {a b i t1 : ℕ} {v1 sum : ℤ} {
   opens = here.next
 
   after_here : a < t1 → t1 < p.time
-  after_here k = (subst (All (λ (p : Point). t1 < p.time)) opens (h.after k).1).0
+  after_here k = (subst (AllByRecursion (λ (p : Point). t1 < p.time)) opens (h.after k).1).0
 
   rest : After p.time (drop (i + 1) ps)
   rest = summing.later z ps a b _ _ i _ _ _ h.summed p opens

@@ -1,6 +1,6 @@
 -- Limits of points, targets and windows, and of what is worked out from them.
 use Rattle.std.specs.Prelude.{ℕ, ◌+◌, ◌<◌, ◌≤◌, List, [], ◌∷◌, length, pos, slice_index_or}
-use Rattle.std.specs.List.{AllByRecursion as All}
+use Rattle.std.specs.List.{AllByRecursion}
 use Rattle.exact.specs.Limits.{Within}
 use Rattle.timeline.specs.declared.target.Target.{Target}
 use Rattle.figure.specs.declared.point.Point.{Point}
@@ -14,7 +14,7 @@ pub record Tame (p : Point) : Type 0 where
 
 -- points of a sound record
 pub record Usable (points : List Point) : Type 0 where
-  pub tame : All Tame points
+  pub tame : AllByRecursion Tame points
   pub rises : Rises points
 
 -- a target within its limits

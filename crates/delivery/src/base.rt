@@ -1,6 +1,6 @@
 // The base: what a plant gave before the disturbance, in hundredths of a watt.
 ghost use Rattle.std.specs.Prelude.{◌≡◌, ◌<◌, length, pos, ◌*ℤ◌};
-ghost use Rattle.std.specs.List.{AllByRecursion as All};
+ghost use Rattle.std.specs.List.{AllByRecursion};
 ghost use Rattle.exact.specs.Fractions.{whole};
 ghost use Rattle.exact.specs.Limits.{Within};
 ghost use Rattle.exact.specs.Wholes.{Is};
@@ -27,7 +27,7 @@ pub(crate) fn in_hundredths(watts: i64) -> i128
 
 // The trajectory of the targets at a time.
 fn trajectory(targets: &[Target], direction: Direction, time: u32) -> i128
-    requires { (All Aimed targets.now) × (BeginsBy (λ g. g.time) time targets.now) }
+    requires { (AllByRecursion Aimed targets.now) × (BeginsBy (λ g. g.time) time targets.now) }
     ensures is { whole result ≡ trajectory_of to_half_up direction targets.now time }
     ensures within { Within 100000000000 result }
 {
@@ -46,7 +46,7 @@ fn trajectory(targets: &[Target], direction: Direction, time: u32) -> i128
 
 // The push of a base point: raised where the trajectory rises to the disturbance.
 fn base_push(point: Point, targets: &[Target], disturbance: Disturbance) -> i128
-    requires { (Tame point) × ((All Aimed targets.now) × ((BeginsBy (λ g. g.time) disturbance.time targets.now) × (BeginsBy (λ g. g.time) point.time targets.now))) }
+    requires { (Tame point) × ((AllByRecursion Aimed targets.now) × ((BeginsBy (λ g. g.time) disturbance.time targets.now) × (BeginsBy (λ g. g.time) point.time targets.now))) }
     ensures is { Is (base_push to_half_up disturbance.direction targets.now disturbance.time point) result 1 }
     ensures within { Within 300000000000 result }
 {
@@ -75,7 +75,7 @@ pub(crate) fn base(
     targets: &[Target],
 ) -> i128
     requires usable { (Usable (course disturbance.direction samples.now)) × (0 < length (base_points disturbance.time window (course disturbance.direction samples.now))) }
-    requires all { (All Aimed targets.now) × ((BeginsBy (λ g. g.time) disturbance.time targets.now) × (All (λ p. BeginsBy (λ g. g.time) p.time targets.now) (base_points disturbance.time window (course disturbance.direction samples.now)))) }
+    requires all { (AllByRecursion Aimed targets.now) × ((BeginsBy (λ g. g.time) disturbance.time targets.now) × (AllByRecursion (λ p. BeginsBy (λ g. g.time) p.time targets.now) (base_points disturbance.time window (course disturbance.direction samples.now)))) }
     ensures is { whole result ≡ base_of to_half_up disturbance.direction targets.now disturbance.time window (course disturbance.direction samples.now) }
     ensures within { Within 300000000000 result }
 {
@@ -100,7 +100,7 @@ pub(crate) fn basis(
     targets: &[Target],
 ) -> Basis
     requires usable { (Usable (course disturbance.direction samples.now)) × (0 < length (base_points disturbance.time window (course disturbance.direction samples.now))) }
-    requires all { (All Aimed targets.now) × ((BeginsBy (λ g. g.time) disturbance.time targets.now) × (All (λ p. BeginsBy (λ g. g.time) p.time targets.now) (base_points disturbance.time window (course disturbance.direction samples.now)))) }
+    requires all { (AllByRecursion Aimed targets.now) × ((BeginsBy (λ g. g.time) disturbance.time targets.now) × (AllByRecursion (λ p. BeginsBy (λ g. g.time) p.time targets.now) (base_points disturbance.time window (course disturbance.direction samples.now)))) }
     ensures time { result.disturbance ≡ disturbance.time }
     ensures base { whole result.base ≡ base_of to_half_up disturbance.direction targets.now disturbance.time window (course disturbance.direction samples.now) }
 {

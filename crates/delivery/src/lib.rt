@@ -3,13 +3,13 @@
 
 mod base;
 mod basis;
+mod compensation;
 mod defects;
 pub mod deliver;
 mod gaps;
 mod judging;
 mod missing;
 mod points;
-mod response;
 mod rounding;
 mod shift;
 mod spans;

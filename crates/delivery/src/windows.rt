@@ -9,8 +9,8 @@ ghost use Rattle.delivery.specs.Limits.{Usable, BeginsBy};
 ghost use Rattle.figure.specs.Windows.{Proper};
 
 use crate::basis::Basis;
+use crate::compensation::compensated;
 use crate::points::point_at;
-use crate::response::compensated;
 use crate::rounding::{half_up, straight_half_up, strip};
 use disturbance::direction::Direction;
 use recording::sample::Sample;

@@ -1,6 +1,6 @@
 -- Records that are alike but for powers at or after recovery: the same times and lines, and the same points before recovery.
 use Rattle.std.proofs.Common.{◌≡◌, ℕ, ◌+◌, ◌-◌, ◌<◌, ◌≤◌, Bool, true, false, cond, ◌&&◌, ltb, leb, List, [], ◌∷◌, length, ℤ, pos, Some, None, filter, Option, sym, refl, ap, subst, arith}
-use Rattle.std.specs.List.{AllZip, AllByRecursion as All}
+use Rattle.std.specs.List.{AllZip, AllByRecursion}
 use Rattle.std.proofs.lemmas.List.Elements.{AllZip-get_or, length_all_zip}
 use Rattle.std.proofs.lemmas.Bool.{ltb-true, leb-true, and_parts}
 use Rattle.exact.specs.First.{FirstOrNone}
@@ -33,7 +33,7 @@ turn_each R (x ∷ xs) [] h = absurd h
 turn_each R (x ∷ xs) (y ∷ ys) h = (turn R x y h.0, turn_each R xs ys h.1)
 
 -- what holds of every time goes over
-pub all_times : (R : Option ℕ) (xs ys : List Sample) → AllZip (AlikeBefore R) xs ys → (P : ℕ → Type 0) → All (λ s. P s.time) xs → All (λ s. P s.time) ys
+pub all_times : (R : Option ℕ) (xs ys : List Sample) → AllZip (AlikeBefore R) xs ys → (P : ℕ → Type 0) → AllByRecursion (λ s. P s.time) xs → AllByRecursion (λ s. P s.time) ys
 all_times R [] [] h P p = tt
 all_times R [] (y ∷ ys) h P p = absurd h
 all_times R (x ∷ xs) [] h P p = absurd h

@@ -2,7 +2,7 @@
 use Rattle.std.proofs.Common.{◌≡◌, ℕ, ◌+◌, ◌≤◌, Bool, true, false, cond, List, [], ◌∷◌, ℤ, pos, negsuc, ◌<ℤ◌, Some, None, Option, refl, inl, inr, arith}
 use lib.Signed.{le_z}
 use borrow.Author.Differences.{up, down, ints}
-use Rattle.std.specs.List.{AllByRecursion as All}
+use Rattle.std.specs.List.{AllByRecursion}
 use Rattle.std.proofs.lemmas.Bool.{cases_lt}
 use Rattle.recording.specs.declared.sample.Sample.{Sample}
 use Rattle.response.specs.Groups.{Sound as SoundRow}
@@ -30,7 +30,7 @@ pub record Stands (w : Span) : Type 0 where
   pub ends : pos (up w.end) ≡ w.end
 
 -- every sample is later than a time before the clock begins
-later : (z : ℤ) (xs : List Sample) → z <ℤ pos 0 → All (λ s. z <ℤ pos s.time) xs
+later : (z : ℤ) (xs : List Sample) → z <ℤ pos 0 → AllByRecursion (λ s. z <ℤ pos s.time) xs
 later z [] less = tt
 later z (s ∷ xs) less = (omega (arith, ints), later z xs less)
 

@@ -1,7 +1,7 @@
 -- What bars a delivery, in the checking order.
 use Rattle.std.specs.Prelude.{◌≡◌, ℕ, ◌-◌, ◌<◌, ◌≤◌, ◌⊎◌, List, [], ◌∷◌, ◌++◌, length, take, ℤ, pos, ◌<ℤ◌, Some, Option, slice_index_or}
 use Rattle.std.specs.Int.{int_max, int_min}
-use Rattle.std.specs.List.{AllByRecursion as All}
+use Rattle.std.specs.List.{AllByRecursion}
 use Rattle.recording.specs.declared.refusal.Reason.{Reason}
 use Rattle.recording.specs.declared.refusal.Reason.TheVariants.{AmountOutside, OtherDirection, OtherTargets, NoBaseSample, OutsideTargets, NoTriggerTime, EmptyFirstWindow, WindowOutside, WideGap}
 use Rattle.recording.specs.declared.sample.Sample.{Sample}
@@ -39,7 +39,7 @@ BadTargets count table = Sound targets count table → ⊥
 
 -- the time t lies before the first target, which is before every one, or after the last
 abbrev pub Missed : List Target → ℕ → Type 0
-Missed gs t = All (λ g. t < g.time) gs ⊎ All (λ g. g.time < t) gs
+Missed gs t = AllByRecursion (λ g. t < g.time) gs ⊎ AllByRecursion (λ g. g.time < t) gs
 
 -- one of the points is at a time that the targets miss
 abbrev pub OneMissed : List Target → List Point → Type 0
@@ -57,7 +57,7 @@ pub record NeverTriggered (xs : List Sample) (d : Disturbance) (recovery : Optio
 
 -- a window that is not empty begins before the first sample, which is before every one, or ends after the last
 abbrev pub Beyond : List Sample → Span → Type 0
-Beyond xs w = (Empty w → ⊥) × (All (λ s. w.start <ℤ pos s.time) xs ⊎ All (λ s. pos s.time <ℤ w.end) xs)
+Beyond xs w = (Empty w → ⊥) × (AllByRecursion (λ s. w.start <ℤ pos s.time) xs ⊎ AllByRecursion (λ s. pos s.time <ℤ w.end) xs)
 
 -- two samples share more than an instant with a window
 abbrev pub Shares : Sample → Sample → Span → Type 0

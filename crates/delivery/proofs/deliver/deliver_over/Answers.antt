@@ -1,5 +1,5 @@
 use Rattle.std.proofs.Common.{◌≡◌, ℕ, ◌-◌, ◌<◌, ◌≤◌, List, length, take, sym, subst, inl, inr, arith, w64, SFits, rules}
-use Rattle.std.specs.List.{AllByRecursion as All}
+use Rattle.std.specs.List.{AllByRecursion}
 use Rattle.std.proofs.lemmas.Int.{to_z-of_z}
 use Rattle.figure.specs.declared.point.Point.{Point}
 use Rattle.figure.specs.declared.span.Span.{Span}
@@ -47,7 +47,7 @@ pub basis-from-requires : goal.basis-from-requires
 basis-from-requires g c =
     let e : c.args.count ≡ c.args.count - 0 = omega arith in
     let held = subst (λ (n : ℕ). (Usable (course c.args.disturbance.direction c.args.trace.samples.now) × (0 < length (base_points c.args.disturbance.time c.base-window.result (course c.args.disturbance.direction c.args.trace.samples.now))))
-    × (All Aimed (take n c.args.targets.now) × (BeginsBy (λ (h : Target). h.time) c.args.disturbance.time (take n c.args.targets.now) × All (λ (p : Point). BeginsBy (λ (h : Target). h.time) p.time (take n c.args.targets.now)) (base_points c.args.disturbance.time c.base-window.result (course c.args.disturbance.direction c.args.trace.samples.now))))) e
+    × (AllByRecursion Aimed (take n c.args.targets.now) × (BeginsBy (λ (h : Target). h.time) c.args.disturbance.time (take n c.args.targets.now) × AllByRecursion (λ (p : Point). BeginsBy (λ (h : Target). h.time) p.time (take n c.args.targets.now)) (base_points c.args.disturbance.time c.base-window.result (course c.args.disturbance.direction c.args.trace.samples.now))))) e
     (grounds c.args.trace.samples.now c.args.trace.sound c.args.disturbance c.base-window.result c.args.targets.now c.args.count c.args.terms.side c.args.terms.enabled c.in_default.ensures) in
     record { usable = held.0; all = held.1 }
 

@@ -2,7 +2,7 @@ use Rattle.std.proofs.Common.{◌-◌, ◌^◌, ◌<◌, length, pos, ◌<ℤ◌
 use Rattle.std.proofs.lemmas.List.{nil_from_length}
 use Rattle.std.proofs.lemmas.Int.{to_z-of_z, to_z_pos}
 use Rattle.std.proofs.lemmas.Bool.Decides.{not_from_Decides}
-use Rattle.std.specs.List.{AllByRecursion as All}
+use Rattle.std.specs.List.{AllByRecursion}
 use Rattle.recording.specs.declared.sample.Sample.{Sample}
 use Rattle.disturbance.specs.Trace.{at}
 use Rattle.delivery.proofs.Signs.{decides_lt_z, decides_le_z}
@@ -12,7 +12,7 @@ use Rattle.delivery.proofs.spans.is_beyond.Goals as goal
 pub returns-then-count-eq0 : goal.returns-then-count-eq0
 returns-then-count-eq0 c =
     let none = nil_from_length c.args.trace.samples.now c.if-count-eq0.true in
-    (λ e. (not_from_Decides _ (decides_le_z c.args.span.end c.args.span.start) (sym c.if-is_empty.ensures), inl (subst (All (λ (s : Sample). c.args.span.start <ℤ pos s.time)) (sym none) tt)), λ h. refl)
+    (λ e. (not_from_Decides _ (decides_le_z c.args.span.end c.args.span.start) (sym c.if-is_empty.ensures), inl (subst (AllByRecursion (λ (s : Sample). c.args.span.start <ℤ pos s.time)) (sym none) tt)), λ h. refl)
 
 pub returns-then-span-samples : goal.returns-then-span-samples
 returns-then-span-samples c =

@@ -6,7 +6,7 @@ use Rattle.exact.specs.Limits.{Within}
 use Rattle.exact.specs.Fractions.{whole, frac}
 use Rattle.exact.specs.Rounding.{half_up}
 use Rattle.delivery.proofs.Weighing.{fit, based, few, meets, compensated_within}
-use Rattle.delivery.proofs.response.compensated.Goals as goal
+use Rattle.delivery.proofs.compensation.compensated.Goals as goal
 
 pub overflow_mul-response : goal.overflow_mul-response
 overflow_mul-response g c = (fit c.in_hundredths.ensures c.requires.push_within (based c.args.basis) (few c.weight_at-weight.result)).fits
