@@ -2,7 +2,7 @@
 ghost use Rattle.std.specs.Prelude.{ℕ, ◌<◌, length, Decides};
 ghost use Rattle.disturbance.specs.Trace.{at, Rising, Sound, Within};
 
-use recording::sample::{GREATEST_FREQUENCY, GREATEST_POWER, LATEST, LEAST_FREQUENCY, Sample};
+use recording::sample::{Sample, is_frequency, is_power, is_time};
 
 // A trace can only be made of samples that are sound, so whatever is asked of one may rely on it.
 #[derive(Clone, Copy)]
@@ -15,11 +15,7 @@ pub struct Trace<'a> {
 fn is_within(sample: Sample) -> bool
     ensures { Decides result (Within sample) }
 {
-    sample.time <= LATEST
-        && LEAST_FREQUENCY <= sample.frequency
-        && sample.frequency <= GREATEST_FREQUENCY
-        && -GREATEST_POWER <= sample.power
-        && sample.power <= GREATEST_POWER
+    is_time(sample.time) && is_frequency(sample.frequency) && is_power(sample.power)
 }
 
 // Whether every sample is within its limits.
