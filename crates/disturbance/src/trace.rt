@@ -1,5 +1,5 @@
 // A trace: samples within their limits, at times that strictly rise.
-ghost use Rattle.std.specs.Prelude.{ℕ, ◌<◌, length, Decides};
+ghost use Rattle.std.specs.Prelude.{◌≡◌, ℕ, ◌<◌, length, Decides, MatchOption};
 ghost use Rattle.disturbance.specs.Trace.{at, Rising, Sound, Within};
 
 use recording::sample::{Sample, is_frequency, is_power, is_time};
@@ -37,4 +37,18 @@ pub fn is_sound(samples: &[Sample]) -> bool
     ensures { Decides result (Sound samples.now) }
 {
     are_within(samples) && are_rising(samples)
+}
+
+impl<'a> Trace<'a> {
+    // A trace of samples that are sound, or none.
+    pub fn new(samples: &'a [Sample]) -> Option<Trace<'a>>
+        ensures { MatchOption result (Sound samples.now → ⊥) (λ trace. trace.samples.now ≡ samples.now) }
+    {
+        // Not by `then`: its closure would need a `requires` that says what the `if` says.
+        if is_sound(samples) {
+            Some(Trace { samples })
+        } else {
+            None
+        }
+    }
 }
