@@ -9,6 +9,7 @@ pub(crate) fn first_found<T, F: Fn(Stretch) -> Option<T>>(trace: Trace, find: F)
     requires { F.IsAlwaysCallable find }
     ensures { FirstFound (F.post find) trace.entry.samples.now result }
 {
+    // Not by `find_map`: its closure would have to require of a pair what the loop knows of it.
     for pair in trace.samples.windows(2) {
         let stretch = Stretch {
             before: pair[0],
