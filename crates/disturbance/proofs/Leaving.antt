@@ -35,14 +35,14 @@ module _ (f g p q n : ℕ) (e : n ≡ p + q) where
 
 -- from inside to outside the line is outside on that side
 pub outside_passes : (d : Direction) (a b : Sample) (t : ℕ) → Inside a → Beyond d b → Between a b t → Outside a b t → Passes d highest true a b t
-outside_passes Low a b t i o w (inl under) = under_low a.frequency b.frequency (b.time - t) (t - a.time) (b.time - a.time) (omega arith) w.first w.second (under_sum pos lowest a b t w under)
-outside_passes Low a b t i o w (inr over) = absurd (not_over a.frequency b.frequency (b.time - t) (t - a.time) (b.time - a.time) (omega arith) i.1 (omega arith) (over_sum pos highest a b t w over))
-outside_passes High a b t i o w (inl under) = absurd (not_under a.frequency b.frequency (b.time - t) (t - a.time) (b.time - a.time) (omega arith) i.0 (omega arith) (under_sum pos lowest a b t w under))
-outside_passes High a b t i o w (inr over) = over_high a.frequency b.frequency (b.time - t) (t - a.time) (b.time - a.time) (omega arith) (over_sum pos highest a b t w over)
+outside_passes Low a b t i o w (inl under) = under_low _ _ _ _ _ (omega arith) w.first w.second (under_sum pos lowest a b t w under)
+outside_passes Low a b t i o w (inr over) = absurd (not_over _ _ _ _ _ (omega arith) i.1 (omega arith) (over_sum pos highest a b t w over))
+outside_passes High a b t i o w (inl under) = absurd (not_under _ _ _ _ _ (omega arith) i.0 (omega arith) (under_sum pos lowest a b t w under))
+outside_passes High a b t i o w (inr over) = over_high _ _ _ _ _ (omega arith) (over_sum pos highest a b t w over)
 
 pub passes_outside : (d : Direction) (a b : Sample) (t : ℕ) → Between a b t → Passes d highest true a b t → Outside a b t
-passes_outside Low a b t w h = inl (sum_under pos lowest a b t w (low_under a.frequency b.frequency (b.time - t) (t - a.time) (b.time - a.time) (omega arith) w.first w.second h))
-passes_outside High a b t w h = inr (sum_over pos highest a b t w (high_over a.frequency b.frequency (b.time - t) (t - a.time) (b.time - a.time) (omega arith) h))
+passes_outside Low a b t w h = inl (sum_under pos lowest a b t w (low_under _ _ _ _ _ (omega arith) w.first w.second h))
+passes_outside High a b t w h = inr (sum_over pos highest a b t w (high_over _ _ _ _ _ (omega arith) h))
 
 -- the side of a sample is one
 pub side_unique : (d e : Direction) (s : Sample) → Beyond d s → Beyond e s → d ≡ e

@@ -1,14 +1,6 @@
-use Rattle.std.proofs.Common.{◌-◌, ◌*◌, ◌≤◌, mul-le-mul, arith, rules}
+use Rattle.std.proofs.Common.{◌-◌, ◌*◌, arith, rules}
 use Rattle.disturbance.proofs.Quotients.{Steps, rounded_steps, Crosses, never_reached, crossing_climbs, crossing_base, crossing_within, crossing_first}
 use Rattle.disturbance.proofs.crossing.Slope.first_reached.Goals as goal
-
-pub overflow_add-here : goal.overflow_add-here
-overflow_add-here c =
-    let a : c.args.self.end - c.args.from ≤ 1200000 = omega arith in
-    let b : c.args.from - c.args.self.start ≤ 1200000 = omega arith in
-    let x : c.args.self.x ≤ 100000 = omega arith in
-    let y : c.args.self.y ≤ 100000 = omega arith in
-    omega (arith, mul-le-mul x a, mul-le-mul y b)
 
 pub returns-then-y-span : goal.returns-then-y-span
 returns-then-y-span c = λ u. never_reached _ _ _ _ _ _ u c.requires.0 c.if-goal-here.false c.if-y-span.true
