@@ -6,6 +6,7 @@ use Rattle.exact.specs.First.{First, FirstOrNone}
 use Rattle.recording.specs.declared.sample.Sample.{Sample}
 use Rattle.disturbance.specs.declared.direction.Direction.{Direction}
 use Rattle.disturbance.specs.declared.direction.Direction.TheVariants.{Low, High}
+use Rattle.disturbance.specs.declared.stretch.Stretch.{Stretch}
 use Rattle.disturbance.specs.Band.{lowest, highest, Inside, Beyond, Outside}
 use Rattle.disturbance.specs.Passing.{Passes, ReachedBetween, PassedBetween}
 use Rattle.disturbance.specs.Disturbance.{LeavesBy, leaves_to, leaving_time, timed, leaving}
@@ -62,6 +63,10 @@ pub record Way (d : Direction) (a b : Sample) : Type 0 where
   pub high : b.frequency ≤ 52000
   pub inside : Inside a
   pub beyond : Beyond d b
+
+-- of a stretch its order and its limits are known
+pub way : (p : Stretch) (d : Direction) → Inside p.before → Beyond d p.after → Way d p.before p.after
+way p d inside beyond = record { times = p.order; high = p.after_within.2; inside = inside; beyond = beyond }
 
 -- past the edge of the band, after sample a
 abbrev pub PastEdge : Direction → Sample → Sample → ℕ → Type 0
