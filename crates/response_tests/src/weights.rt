@@ -1,7 +1,7 @@
 // Weights of both response rules.
 use response::rule::ResponseRule;
 use response::settings::Settings;
-use response::setup::Rate;
+use response::setup::{Rate, Trigger};
 use response::switching::Switching;
 use response::variable::Variable;
 use response::weighing::{Dip, Offset};
@@ -17,11 +17,11 @@ fn plain() -> Variable {
 
 // Whether the rule weighs n over d at a dip and an offset.
 fn weighs<R: ResponseRule>(rule: &R, mhz: i32, ms: u32, n: u32, d: u32) -> bool {
-    if mhz < -3_000 || mhz > 3_000 || ms > 1_200_000 {
+    if !(-3_000..=3_000).contains(&mhz) || ms > 1_200_000 {
         return false;
     }
     let weight = rule.weight(Dip { mhz }, Offset { ms });
-    weight.n == n && weight.d == d
+    (weight.n, weight.d) == (n, d)
 }
 
 #[test]
@@ -61,33 +61,23 @@ fn where_the_ramp_meets_the_reference(rt: HostRuntime) {
 
 #[test]
 fn another_rate(rt: HostRuntime) -> Result<(), Fail> {
-    let Ok(rate) = Rate::new(10_000) else {
-        assert!(rt; false);
-        return Ok(());
-    };
+    let rate = Rate::new(10_000)?;
     let rule = Variable { rate, ..plain() };
     assert!(rt; weighs(&rule, 300, 10, 150_000, 150_000));
     assert!(rt; weighs(&rule, 300, 20, 200_000, 150_000));
     assert!(rt; weighs(&rule, 300, 35, 350_000, 150_000));
     assert!(rt; weighs(&rule, 300, 1_200_000, 350_000, 150_000));
-    assert!(rt; rule.trigger().is_none());
+    assert_eq!(rt; rule.trigger(), None);
     Ok(())
 }
 
 #[test]
-fn switching(rt: HostRuntime) -> Result<(), Fail> {
+fn switching(rt: HostRuntime) {
     let rule = Switching {
         response: Settings::plain().response,
     };
-    let Some(trigger) = rule.trigger() else {
-        assert!(rt; false);
-        return Ok(());
-    };
-    assert!(rt; trigger.dip == 200);
-    assert!(rt;
-        weighs(&rule, 200, 2_000, 1, 1)
-            && weighs(&rule, 3_000, 0, 1, 1)
-            && weighs(&rule, -1, 5, 1, 1)
-    );
-    Ok(())
+    assert_eq!(rt; rule.trigger(), Some(Trigger { dip: 200 }));
+    assert!(rt; weighs(&rule, 200, 2_000, 1, 1));
+    assert!(rt; weighs(&rule, 3_000, 0, 1, 1));
+    assert!(rt; weighs(&rule, -1, 5, 1, 1));
 }
