@@ -54,7 +54,10 @@ fn rate_limits(rt: HostRuntime) {
 
 #[test]
 fn reference_limits(rt: HostRuntime) {
-    let asked = |reference_dip| Proposal { reference_dip, ..PLAIN };
+    let asked = |reference_dip| Proposal {
+        reference_dip,
+        ..PLAIN
+    };
     refused(&rt, asked(159));
     granted(&rt, asked(160));
     granted(&rt, asked(2_000));
@@ -71,7 +74,10 @@ fn dead_band_limits(rt: HostRuntime) {
 
 #[test]
 fn switch_limits(rt: HostRuntime) {
-    let asked = |switch_dip| Proposal { switch_dip, ..PLAIN };
+    let asked = |switch_dip| Proposal {
+        switch_dip,
+        ..PLAIN
+    };
     refused(&rt, asked(150));
     granted(&rt, asked(151));
     granted(&rt, asked(2_000));
@@ -82,7 +88,11 @@ fn switch_limits(rt: HostRuntime) {
 
 #[test]
 fn base_limits(rt: HostRuntime) {
-    let asked = |base_begin, base_end| Proposal { base_begin, base_end, ..PLAIN };
+    let asked = |base_begin, base_end| Proposal {
+        base_begin,
+        base_end,
+        ..PLAIN
+    };
     refused(&rt, asked(0, 0));
     granted(&rt, asked(1, 0));
     refused(&rt, asked(1, 1));
@@ -95,7 +105,10 @@ fn base_limits(rt: HostRuntime) {
 fn what_the_rules_read(rt: HostRuntime) -> Result<(), Fail> {
     let rate = Rate::new(125)?;
     let switch_dip = Trigger::new(200)?;
-    assert_eq!(rt; Response::new(rate, 500, 150, switch_dip), Ok(Settings::plain().response));
+    assert_eq!(rt;
+        Response::new(rate, 500, 150, switch_dip),
+        Ok(Settings::plain().response)
+    );
     assert_eq!(rt; Response::new(rate, 500, 151, switch_dip), Err(OUTSIDE));
     Ok(())
 }
@@ -111,8 +124,20 @@ fn a_refused_change_changes_nothing(rt: HostRuntime) {
     assert_eq!(rt; settings.change(asked(20_000)), Err(OUTSIDE));
     assert_eq!(rt; settings, Settings::plain());
     assert_eq!(rt; settings.response.rate, Rate { mhz_per_s: 125 });
-    assert_eq!(rt; settings.base(), BaseWindow { begin: 20_000, end: 8_000 });
+    assert_eq!(rt;
+        settings.base(),
+        BaseWindow {
+            begin: 20_000,
+            end: 8_000
+        }
+    );
     assert_eq!(rt; settings.change(asked(19_999)), Ok(()));
     assert_eq!(rt; settings.response.rate, Rate { mhz_per_s: 250 });
-    assert_eq!(rt; settings.base(), BaseWindow { begin: 20_000, end: 19_999 });
+    assert_eq!(rt;
+        settings.base(),
+        BaseWindow {
+            begin: 20_000,
+            end: 19_999
+        }
+    );
 }

@@ -100,7 +100,10 @@ fn inside_a_trial(rt: HostRuntime) {
         let mut trial = Trial::begin(&mut settings, window);
         assert_eq!(rt; trial.tried_inside(30, 10, &Span), Ok(20));
         assert_eq!(rt; trial.settings().base(), window);
-        assert_eq!(rt; trial.tried_inside(30, 30, &Span), Err(Reason::SettingOutside.into()));
+        assert_eq!(rt;
+            trial.tried_inside(30, 30, &Span),
+            Err(Reason::SettingOutside.into())
+        );
         assert_eq!(rt; trial.settings().base(), window);
     }
     assert_eq!(rt; settings.base(), PLAIN);
