@@ -1,6 +1,9 @@
 // Refusals: why a call is sent back, and where.
-ghost use Rattle.std.specs.Prelude.{◌≡◌};
+ghost use Rattle.std.specs.Prelude.{◌≡◌, ◌++◌, Some, codes, decimal};
 ghost use Rattle.recording.specs.Refusals.{listed, field_number, refusal};
+
+use std::error::Error;
+use std::fmt;
 
 // The part of the work that sends a call back.
 #[derive(Clone, Copy, Debug, PartialEq, Eq)]
@@ -157,3 +160,15 @@ impl Refusal {
         }
     }
 }
+
+// `refused` and the number.
+impl fmt::Display for Refusal {
+    ghost output = { λ r. Some (codes "refused " ++ decimal (listed r.reason).number) };
+
+    fn fmt<W: fmt::Write>(&self, f: &mut fmt::Formatter<W>) -> fmt::Result {
+        let number = self.number();
+        write!(f, "refused {number}")
+    }
+}
+
+impl Error for Refusal {}
