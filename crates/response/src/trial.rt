@@ -62,8 +62,10 @@ impl Drop for Trial<'_> {
     }
 }
 
+// Each of these calls promises that the settings are as they were: what a call leaves of a value that it
+// borrows is no fact about the value alone, which its type could carry.
 impl Settings {
-    // What a task gives in a trial of the window. Afterwards the settings are as they were.
+    // What a task gives in a trial of the window.
     pub fn in_trial<T: Task>(&mut self, window: BaseWindow, task: &T) -> Result<T::Answer, Refusal>
         ensures same { self.new ≡ self.old }
         ensures answer { result ≡ T.Task.gives task.now (with_base self.old window) }
@@ -72,7 +74,8 @@ impl Settings {
         task.run(trial.settings())
     }
 
-    // The same for a window that is not yet held against its limits.
+    // The same for a window that is not yet held against its limits. Two numbers and no `BaseWindow`, which
+    // exists only within them.
     pub fn tried<T: Task>(&mut self, begin: u32, end: u32, task: &T) -> Result<T::Answer, Refusal>
         ensures same { self.new ≡ self.old }
         ensures answer { Tried (T.Task.gives task.now) self.old begin end result }
@@ -91,6 +94,8 @@ impl Settings {
         ensures same { self.new ≡ self.old }
         ensures answer { result ≡ result_or (T.Task.gives task.now (with_base self.old first)) (T.Task.gives task.now (with_base self.old second)) }
     {
+        // No `or_else`: its contract leaves open what a closure that is not called, and holds the settings,
+        // leaves of them.
         match self.in_trial(first, task) {
             Err(_) => self.in_trial(second, task),
             accepted => accepted,
