@@ -8,6 +8,7 @@ use crate::base::BaseWindow;
 use crate::settings::Settings;
 use crate::task::Task;
 use recording::refusal::Refusal;
+use std::mem;
 
 // A trial of a base window. It holds the settings until it ends.
 pub struct Trial<'a> {
@@ -22,8 +23,7 @@ impl<'a> Trial<'a> {
         ensures former { result.former ≡ settings.old.base }
         ensures swapped { result.settings.now ≡ with_base settings.old window }
     {
-        let former = settings.base;
-        settings.base = window;
+        let former = mem::replace(&mut settings.base, window);
         Trial { settings, former }
     }
 
@@ -54,11 +54,8 @@ impl Drop for Trial<'_> {
     fn drop(self)
         ensures { self.exit.0.now ≡ with_base self.entry.settings.now self.entry.former }
     {
-        self.settings.base = self.former;
-        let Trial {
-            settings: _,
-            former: _,
-        } = self;
+        let Trial { settings, former } = self;
+        settings.base = former;
     }
 }
 
