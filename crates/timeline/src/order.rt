@@ -8,37 +8,23 @@ use crate::entry::Entry;
 pub(crate) fn is_misplaced(before: Option<u32>, after: Option<u32>, time: u32) -> bool
     ensures { result ≡ misplaced before after time }
 {
-    if let Some(earlier) = before {
-        if time <= earlier {
-            return true;
-        }
-    }
-    match after {
-        Some(later) => later <= time,
-        None => false,
-    }
+    before.is_some_and(|earlier| time <= earlier) || after.is_some_and(|later| later <= time)
 }
 
 // The time of the entry before a place.
 pub fn time_before<E: Entry>(entries: &[E], place: usize) -> Option<u32>
     ensures { result ≡ time_before E.kind entries.now place }
 {
-    if 0 < place && place <= entries.len() {
-        Some(entries[place - 1].time())
-    } else {
-        None
-    }
+    let entry = entries.get(place.checked_sub(1)?)?;
+    Some(entry.time())
 }
 
 // The time of the entry after a place.
 pub(crate) fn time_after<E: Entry>(entries: &[E], place: usize) -> Option<u32>
     ensures { result ≡ time_after E.kind entries.now place }
 {
-    if place < entries.len() && entries.len() - place > 1 {
-        Some(entries[place + 1].time())
-    } else {
-        None
-    }
+    let entry = entries.get(place.checked_add(1)?)?;
+    Some(entry.time())
 }
 
 // Whether a table holds as many entries as are counted, each within its limits and later than the

@@ -1,5 +1,5 @@
 // Samples as entries of a timeline.
-ghost use Rattle.std.specs.Prelude.{◌≡◌};
+ghost use Rattle.std.specs.Prelude.{◌≡◌, refl};
 ghost use Rattle.timeline.specs.Checks.{TheFirst};
 ghost use Rattle.timeline.specs.Samples.{samples, sample_fields};
 
@@ -12,6 +12,12 @@ pub const MOST_SAMPLES: usize = 4096;
 
 impl Entry for Sample {
     ghost kind = { samples };
+
+    const MOST: usize = MOST_SAMPLES;
+
+    ghost MOST = { 4096 };
+
+    ghost most_is = { refl };
 
     fn time(&self) -> u32 {
         self.time
@@ -31,9 +37,5 @@ impl Entry for Sample {
             return Some(Field::Power);
         }
         None
-    }
-
-    fn most() -> usize {
-        MOST_SAMPLES
     }
 }

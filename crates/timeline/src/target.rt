@@ -1,5 +1,5 @@
 // Dispatch targets, and as entries of a timeline.
-ghost use Rattle.std.specs.Prelude.{◌≡◌};
+ghost use Rattle.std.specs.Prelude.{◌≡◌, refl};
 ghost use Rattle.timeline.specs.Checks.{TheFirst};
 ghost use Rattle.timeline.specs.Targets.{targets, target_fields};
 
@@ -20,6 +20,12 @@ pub struct Target {
 impl Entry for Target {
     ghost kind = { targets };
 
+    const MOST: usize = MOST_TARGETS;
+
+    ghost MOST = { 16 };
+
+    ghost most_is = { refl };
+
     fn time(&self) -> u32 {
         self.time
     }
@@ -35,9 +41,5 @@ impl Entry for Target {
             return Some(Field::Power);
         }
         None
-    }
-
-    fn most() -> usize {
-        MOST_TARGETS
     }
 }
