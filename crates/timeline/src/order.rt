@@ -1,5 +1,5 @@
 // Entries in order of their times: whether a table's entries are, and where a time may stand.
-ghost use Rattle.std.specs.Prelude.{◌≡◌, Decides};
+ghost use Rattle.std.specs.Prelude.{◌≡◌, ℕ, ◌+◌, ◌<◌, length, None, Decides, slice_index_or};
 ghost use Rattle.timeline.specs.Orders.{Sound, is_sound, misplaced, time_before, time_after};
 
 use crate::entry::Entry;
@@ -27,26 +27,28 @@ pub(crate) fn time_after<E: Entry>(entries: &[E], place: usize) -> Option<u32>
     Some(entry.time())
 }
 
+// Whether every entry is within its limits.
+fn are_within<E: Entry>(entries: &[E]) -> bool
+    ensures { Decides result ((i : ℕ) (d : E) → i < length entries.now → E.kind.outside (slice_index_or entries.now i d) ≡ None) }
+{
+    entries.iter().all(|entry| entry.outside().is_none())
+}
+
+// Whether each entry is earlier than the next.
+fn are_rising<E: Entry>(entries: &[E]) -> bool
+    ensures { Decides result ((i : ℕ) (d : E) → i + 1 < length entries.now → E.kind.time (slice_index_or entries.now i d) < E.kind.time (slice_index_or entries.now (i + 1) d)) }
+{
+    entries.is_sorted_by(|before, after| before.time() < after.time())
+}
+
 // Whether a table holds as many entries as are counted, each within its limits and later than the
 // one before.
 pub fn is_sound<E: Entry>(table: &[E], count: usize) -> bool
     ensures value { result ≡ is_sound E.kind count table.now }
     ensures sound { Decides result (Sound E.kind count table.now) }
 {
-    if count > table.len() {
-        return false;
+    match table.get(..count) {
+        Some(counted) => are_within(counted) && are_rising(counted),
+        None => false,
     }
-    let counted = &table[0..count];
-    let mut before: Option<u32> = None;
-    for x in counted {
-        if x.outside().is_some() {
-            return false;
-        }
-        let time = x.time();
-        if is_misplaced(before, None, time) {
-            return false;
-        }
-        before = Some(time);
-    }
-    true
 }

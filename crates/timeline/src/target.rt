@@ -3,8 +3,9 @@ ghost use Rattle.std.specs.Prelude.{◌≡◌, refl};
 ghost use Rattle.timeline.specs.Checks.{TheFirst};
 ghost use Rattle.timeline.specs.Targets.{targets, target_fields};
 
-use crate::entry::{Entry, is_power_outside, is_time_outside};
+use crate::entry::Entry;
 use recording::refusal::Field;
+use recording::sample::{is_power, is_time};
 
 // The greatest count of a timeline of targets.
 pub const MOST_TARGETS: usize = 16;
@@ -34,10 +35,10 @@ impl Entry for Target {
         ensures value { result ≡ targets.outside self.now }
         ensures the_first { TheFirst (target_fields self.now) result }
     {
-        if is_time_outside(self.time) {
+        if !is_time(self.time) {
             return Some(Field::Time);
         }
-        if is_power_outside(self.power) {
+        if !is_power(self.power) {
             return Some(Field::Power);
         }
         None

@@ -1,7 +1,6 @@
 // A timeline: a count and the caller's table. Its entries stand at the places below the count, in
 // order of their times; what stands from the count on is the caller's.
 ghost use Rattle.std.specs.Prelude.{◌≡◌, ◌+◌, ◌<◌, length, slice_set};
-ghost use Rattle.recording.specs.Refusals.{refusal};
 ghost use Rattle.timeline.specs.Timelines.{Appends, Puts, Amends, Strikes};
 
 use crate::end::End;
@@ -21,7 +20,7 @@ impl<'a, E: Entry + Copy> Timeline<'a, E> {
         ensures { Puts E.kind self.entry.count self.entry.table.now e result self.exit.0.now }
     {
         let Timeline { table, count } = self;
-        check_put(table, count, &e).map_err(|reason| refusal_at(reason, count))?;
+        check_put(table, count, &e).map_err(|reason| reason.at(count))?;
         Ok(add_last(table, count, e))
     }
 
@@ -30,7 +29,7 @@ impl<'a, E: Entry + Copy> Timeline<'a, E> {
         ensures { Amends E.kind self.entry.count self.entry.table.now place e result self.exit.0.now }
     {
         let Timeline { table, count } = self;
-        check_amend(table, count, place, &e).map_err(|reason| refusal_at(reason, place))?;
+        check_amend(table, count, place, &e).map_err(|reason| reason.at(place))?;
         table[place] = e;
         Ok(count)
     }
@@ -40,19 +39,9 @@ impl<'a, E: Entry + Copy> Timeline<'a, E> {
         ensures { Strikes E.kind self.entry.count self.entry.table.now place result self.exit.0.now }
     {
         let Timeline { table, count } = self;
-        check_strike(table, count, place).map_err(|reason| refusal_at(reason, place))?;
+        check_strike(table, count, place).map_err(|reason| reason.at(place))?;
         table.copy_within(place + 1..count, place);
         Ok(count - 1)
-    }
-}
-
-fn refusal_at(reason: Reason, place: usize) -> Refusal
-    ensures { result ≡ refusal reason place 0 }
-{
-    Refusal {
-        reason,
-        place,
-        position: 0,
     }
 }
 
