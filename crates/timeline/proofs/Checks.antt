@@ -49,7 +49,11 @@ pub ok_none : {A F : Type 0} (fault : Option F) (value given : A) → Ok given �
 ok_none None value given e = refl
 ok_none (Some why) value given e = let z : ◌≡◌ {A = ℕ} 0 1 = cc in absurd (omega arith)
 
-err_some : {A F : Type 0} (fault : Option F) (value : A) (why : F) → Err why ≡ unless fault value → fault ≡ Some why
+pub ok_same : {A F : Type 0} (fault : Option F) (value given : A) → Ok given ≡ unless fault value → given ≡ value
+ok_same None value given e = cc
+ok_same (Some why) value given e = let z : ◌≡◌ {A = ℕ} 0 1 = cc in absurd (omega arith)
+
+pub err_some : {A F : Type 0} (fault : Option F) (value : A) (why : F) → Err why ≡ unless fault value → fault ≡ Some why
 err_some None value why e = let z : ◌≡◌ {A = ℕ} 0 1 = cc in absurd (omega arith)
 err_some (Some other) value why e = cc
 
