@@ -12,7 +12,7 @@ pub const MOST_TARGETS: usize = 16;
 
 // The power that a plant is to reach at a time: time in ms, power in W with flow into the network
 // positive.
-#[derive(Clone, Copy)]
+#[derive(Clone, Copy, Debug, PartialEq, Eq)]
 pub struct Target {
     pub time: u32,
     pub power: i32,
