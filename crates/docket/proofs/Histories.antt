@@ -61,7 +61,7 @@ grown places xs r f e =
     let g = given (sampled r) (none_outside (field_outside (sampled r)) n.0 n.1.0 n.1.1.0) in
     let s = g.0 in
     let m : misplaced (time_before samples xs (length xs)) None s.time ≡ false = ap (misplaced (time_before samples xs (length xs)) None) (sampled_time r s g.1) ∙ n.1.1.1.1.0 in
-    let room = append_room readings places (length xs) (time_before samples xs (length xs)) r (sym e) in
+    let room = append_room readings places (length xs) (time_before samples xs (length xs)) r e in
     record { sample = s; is = g.1; fit = record { ordered = ordered_push samples xs s f.ordered (sampled_within r s g.1) m; room = omega (arith, length-append xs (s ∷ [])) } }
 
 put_fit : (places : ℕ) (xs : List Sample) (r : Reading) → Fit places xs → Fit places (put_record places xs r)

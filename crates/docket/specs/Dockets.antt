@@ -1,5 +1,6 @@
 -- How a docket and its table stand, and what each call leaves of them.
 use Rattle.std.specs.Prelude.{◌≡◌, ℕ, ◌≤◌, cond, List, ◌∷◌, ◌++◌, length, take, Some, None, Ok, Err, Option, Result}
+use Rattle.std.specs.Result.{result_unwrap_or}
 use Rattle.recording.specs.declared.refusal.Reason.TheVariants.{OtherTable, NoDisturbance}
 use Rattle.recording.specs.declared.refusal.Refusal.{Refusal}
 use Rattle.recording.specs.declared.sample.Sample.{Sample}
@@ -37,11 +38,14 @@ abbrev pub LeadsEither : {places : ℕ} {a : Accepted} → History places a → 
 LeadsEither h (Ok docket) table = LeadsClosed h docket table
 LeadsEither h (Err k) table = LeadsOpen h k.docket table
 
+-- a call on an open docket and a table: whatever history leads to them, the history with the call leads to them as they are left, and the answer is the accepted record's
+abbrev pub Extends : (before : OpenDocket) (table : List Sample) (after : OpenDocket) (left : List Sample) (r : Result ℕ Refusal) {then : List Sample → List Sample} → ((xs : List Sample) → History (length table) (opened xs) → History (length table) (opened (then xs))) → (List Sample → Result ℕ Refusal) → Type 0
+Extends before table after left r call answer = (xs : List Sample) (h : History (length table) (opened xs)) → LeadsOpen h before table → LeadsOpen (call xs h) after left × (r ≡ answer xs)
+
 -- ---- what a call answers and leaves, with any table
 -- the count after an answer
 abbrev pub count_after : Result ℕ Refusal → ℕ → ℕ
-count_after (Ok n) old = n
-count_after (Err f) old = old
+count_after r old = result_unwrap_or r old
 
 -- put of a reading
 abbrev pub PutsReading : ℕ → List Sample → Reading → Result ℕ Refusal → List Sample → Type 0
