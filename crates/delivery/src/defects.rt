@@ -25,7 +25,7 @@ const GREATEST_AMOUNT: i64 = 1_000_000_000;
 fn is_bad_amount(enabled: i64) -> bool
     ensures { Decides result (BadAmount enabled) }
 {
-    enabled < 0 || enabled > GREATEST_AMOUNT
+    !(0..=GREATEST_AMOUNT).contains(&enabled)
 }
 
 // Whether services of a side belong to the other direction.

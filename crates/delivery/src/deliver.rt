@@ -35,10 +35,7 @@ fn reached(
 ) -> Option<u32>
     ensures { TriggerTime trace.entry.samples.now disturbance recovery trigger result }
 {
-    match trigger {
-        Some(at) => trigger_time(trace, disturbance, recovery, at.dip),
-        None => None,
-    }
+    trigger_time(trace, disturbance, recovery, trigger?.dip)
 }
 
 // A refusal for this reason, which has no place of its own.

@@ -40,8 +40,5 @@ pub(crate) fn count_used(samples: &[Sample], direction: Direction, recovery: Opt
     ensures within { result ≤ length samples.now }
     ensures is { course direction (take result samples.now) ≡ used_points recovery (course direction samples.now) }
 {
-    match recovery {
-        Some(time) => count_before(samples, direction, time),
-        None => samples.len(),
-    }
+    recovery.map_or(samples.len(), |time| count_before(samples, direction, time))
 }

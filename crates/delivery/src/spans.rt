@@ -12,10 +12,7 @@ use response::group::Window;
 fn cut(recovery: Option<u32>, time: i64) -> i64
     ensures { result ≡ cut_at recovery time }
 {
-    match recovery {
-        None => time,
-        Some(end) => time.min(end as i64),
-    }
+    recovery.map_or(time, |end| time.min(end as i64))
 }
 
 // A window after the shift, cut at recovery.
