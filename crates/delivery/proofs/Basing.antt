@@ -23,7 +23,7 @@ use Rattle.disturbance.specs.Direction.{push}
 use Rattle.disturbance.specs.declared.disturbance.Disturbance.{Disturbance}
 use Rattle.response.specs.declared.base.BaseWindow.{BaseWindow}
 use Rattle.figure.specs.declared.point.Point.{Point}
-use Rattle.figure.specs.Points.{course, origin}
+use Rattle.figure.specs.Points.{turned, course}
 use Rattle.figure.specs.Steps.{to_half_up, trajectory, base_push, is_base, base_points}
 use Rattle.delivery.specs.Limits.{Aimed, BeginsBy}
 use Rattle.delivery.proofs.Courses.{opens, passed_all}
@@ -83,10 +83,10 @@ module _ {D : Disturbance} {w : BaseWindow} {gs : List Target} {xs : List Sample
   Knows p = BeginsBy (λ g. g.time) p.time gs
 
   -- the next point is p
-  module _ {p : Point} (lt : i < length xs) (at : p ≡ get_or (course D.direction xs) i origin) where
+  module _ {p : Point} (lt : i < length xs) (x : Sample) (at : p ≡ turned D.direction (get_or xs i x)) where
     -- what is left, by whether p counts
     left : (b : Bool) → is_base D.time w p ≡ b → counted (drop i ps) ≡ cond b (p ∷ counted (drop (i + 1) ps)) (counted (drop (i + 1) ps))
-    left b e = ap counted (opens D.direction xs i lt p at) ∙ ap (λ (x : Bool). cond x (p ∷ counted (drop (i + 1) ps)) (counted (drop (i + 1) ps))) e
+    left b e = ap counted (opens D.direction xs i lt x p at) ∙ ap (λ (x : Bool). cond x (p ∷ counted (drop (i + 1) ps)) (counted (drop (i + 1) ps))) e
 
     pub passed : false ≡ is_base D.time w p → Added D w gs xs (i + 1) count sum
     passed e = let l = left false (sym e) in

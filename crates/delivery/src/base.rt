@@ -9,7 +9,7 @@ ghost use Rattle.figure.specs.Steps.{is_base, base_points, trajectory as traject
 ghost use Rattle.delivery.specs.Limits.{Tame, Aimed, Usable, BeginsBy};
 
 use crate::basis::Basis;
-use crate::points::point_at;
+use crate::points::turned;
 use crate::rounding::{half_up, straight_half_up};
 use disturbance::direction::{Direction, push};
 use disturbance::disturbance::Disturbance;
@@ -81,8 +81,8 @@ pub(crate) fn base(
 {
     let mut sum: i128 = 0;
     let mut count: u64 = 0;
-    for place in 0..samples.len() {
-        let point = point_at(samples, disturbance.direction, place);
+    for sample in samples {
+        let point = turned(disturbance.direction, *sample);
         if !is_base(point, disturbance.time, window) {
             continue;
         }

@@ -31,10 +31,7 @@ fn is_gap(a: Sample, b: Sample, widest: u32, first: Span, second: Span) -> bool
 pub(crate) fn is_gapped(samples: &[Sample], widest: u32, first: Span, second: Span) -> bool
     ensures { Decides result (Gapped samples.now widest first ⊎ Gapped samples.now widest second) }
 {
-    for place in 1..samples.len() {
-        if is_gap(samples[place - 1], samples[place], widest, first, second) {
-            return true;
-        }
-    }
-    false
+    samples
+        .windows(2)
+        .any(|pair| is_gap(pair[0], pair[1], widest, first, second))
 }

@@ -6,7 +6,7 @@ ghost use Rattle.figure.specs.Defects.{Missed, OneMissed, MissedByTargets};
 ghost use Rattle.delivery.specs.Limits.{RisingTargets};
 
 use crate::base::is_base;
-use crate::points::point_at;
+use crate::points::turned;
 use disturbance::disturbance::Disturbance;
 use figure::point::Point;
 use recording::sample::Sample;
@@ -17,13 +17,10 @@ use timeline::target::Target;
 pub(crate) fn lacks_base(samples: &[Sample], disturbance: Disturbance, window: BaseWindow) -> bool
     ensures { Decides result (base_points disturbance.time window (course disturbance.direction samples.now) ≡ []) }
 {
-    for place in 0..samples.len() {
-        let point = point_at(samples, disturbance.direction, place);
-        if is_base(point, disturbance.time, window) {
-            return false;
-        }
-    }
-    true
+    let Disturbance { time, direction } = disturbance;
+    !samples
+        .iter()
+        .any(|sample| is_base(turned(direction, *sample), time, window))
 }
 
 // Whether a time lies before the first target or after the last.
@@ -52,13 +49,10 @@ fn misses_one(
     requires { (0 < length targets.now) × (RisingTargets targets.now) }
     ensures { Decides result (OneMissed targets.now (base_points disturbance.time window (course disturbance.direction samples.now))) }
 {
-    for place in 0..samples.len() {
-        let point = point_at(samples, disturbance.direction, place);
-        if misses_point(targets, point, disturbance.time, window) {
-            return true;
-        }
-    }
-    false
+    let Disturbance { time, direction } = disturbance;
+    samples
+        .iter()
+        .any(|sample| misses_point(targets, turned(direction, *sample), time, window))
 }
 
 // Whether, with targets, the disturbance or a base sample does.

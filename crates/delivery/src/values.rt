@@ -7,7 +7,7 @@ ghost use Rattle.figure.specs.Windows.{Empty, on_clock, unless_empty};
 ghost use Rattle.figure.specs.Defects.{Beyond};
 
 use crate::basis::Basis;
-use crate::points::count_used;
+use crate::points::used;
 use crate::spans::{is_empty, on_clock};
 use crate::windows::window_value;
 use disturbance::direction::Direction;
@@ -37,16 +37,15 @@ pub(crate) fn window_values<R: ResponseRule>(
     ensures first { whole result.first ≡ value_of to_half_up (compensated_of to_half_up (R.ResponseRule.weighs rule.now) basis.disturbance (whole basis.base)) (used_points recovery (course direction trace.entry.samples.now)) (on_clock first) }
     ensures second { or_none whole result.second ≡ or_none (value_of to_half_up (compensated_of to_half_up (R.ResponseRule.weighs rule.now) basis.disturbance (whole basis.base)) (used_points recovery (course direction trace.entry.samples.now))) (unless_empty second) }
 {
-    let used = count_used(trace.samples, direction, recovery);
-    let samples = &trace.samples[0..used];
-    let value = window_value(samples, direction, on_clock(first), basis, rule);
+    let before = used(trace, recovery);
+    let value = window_value(before, direction, on_clock(first), basis, rule);
     if is_empty(second) {
         return Values {
             first: value,
             second: None,
         };
     }
-    let other = window_value(samples, direction, on_clock(second), basis, rule);
+    let other = window_value(before, direction, on_clock(second), basis, rule);
     Values {
         first: value,
         second: Some(other),

@@ -6,26 +6,26 @@ use Rattle.delivery.proofs.Courses.{holds_at}
 use Rattle.delivery.proofs.Basing.{start, passed, this, sum_more, again, counts_some, mean_held, wide}
 use Rattle.delivery.proofs.base.base.Goals as goal
 
-pub loop-place-init : goal.loop-place-init
-loop-place-init c = start c.requires.all.1.1
+pub loop-sample-init : goal.loop-sample-init
+loop-sample-init c = start c.requires.all.1.1
 
-pub loop-place-preserved-then-not-is_base : goal.loop-place-preserved-then-not-is_base
-loop-place-preserved-then-not-is_base c = passed c.loop-place.invariant c.loop-place-test.true c.point_at-point.ensures c.if-not-is_base.ensures
+pub loop-sample-preserved-then-not-is_base : goal.loop-sample-preserved-then-not-is_base
+loop-sample-preserved-then-not-is_base c = passed c.loop-sample.invariant c.loop-sample-test.true _ c.turned-point.ensures c.if-not-is_base.ensures
 
 pub base_push-sum-requires : goal.base_push-sum-requires
 base_push-sum-requires c = (
-  holds_at c.args.disturbance.direction c.args.samples.now c.loop-place.place c.loop-place-test.true c.point_at-point.result c.point_at-point.ensures Tame c.requires.usable.0.tame,
-  (c.requires.all.0, (c.requires.all.1.0, this c.loop-place.invariant c.loop-place-test.true c.point_at-point.ensures c.if-not-is_base.ensures)),
+  holds_at c.args.disturbance.direction c.args.samples.now c.loop-sample.sample-index c.loop-sample-test.true _ c.turned-point.result c.turned-point.ensures Tame c.requires.usable.0.tame,
+  (c.requires.all.0, (c.requires.all.1.0, this c.loop-sample.invariant c.loop-sample-test.true _ c.turned-point.ensures c.if-not-is_base.ensures)),
 )
 
 pub overflow_add-sum : goal.overflow_add-sum
-overflow_add-sum c = (sum_more c.loop-place.invariant c.loop-place-test.true c.point_at-point.ensures c.if-not-is_base.ensures c.base_push-sum.ensures.is c.base_push-sum.ensures.within (omega (arith, c.loop-place.invariant.few))).fits
+overflow_add-sum c = (sum_more c.loop-sample.invariant c.loop-sample-test.true _ c.turned-point.ensures c.if-not-is_base.ensures c.base_push-sum.ensures.is c.base_push-sum.ensures.within (omega (arith, c.loop-sample.invariant.few))).fits
 
-pub loop-place-preserved : goal.loop-place-preserved
-loop-place-preserved c = again c.loop-place.invariant c.loop-place-test.true c.point_at-point.ensures c.if-not-is_base.ensures c.base_push-sum.ensures.is c.base_push-sum.ensures.within (omega (arith, c.loop-place.invariant.few))
+pub loop-sample-preserved : goal.loop-sample-preserved
+loop-sample-preserved c = again c.loop-sample.invariant c.loop-sample-test.true _ c.turned-point.ensures c.if-not-is_base.ensures c.base_push-sum.ensures.is c.base_push-sum.ensures.within (omega (arith, c.loop-sample.invariant.few))
 
 pub half_up-requires : goal.half_up-requires
-half_up-requires c = (counts_some c.loop-place.invariant c.loop-place-test.false c.requires.usable.1, wide c.loop-place.invariant (omega (arith, c.loop-place.invariant.few)))
+half_up-requires c = (counts_some c.loop-sample.invariant c.loop-sample-test.false c.requires.usable.1, wide c.loop-sample.invariant (omega (arith, c.loop-sample.invariant.few)))
 
 pub returns : goal.returns
-returns c = let r = mean_held c.loop-place.invariant c.loop-place-test.false c.requires.usable.1 c.half_up.ensures in record { is = ap whole r.is; within = r.within }
+returns c = let r = mean_held c.loop-sample.invariant c.loop-sample-test.false c.requires.usable.1 c.half_up.ensures in record { is = ap whole r.is; within = r.within }

@@ -2,5 +2,5 @@
 use Rattle.delivery.proofs.Basing.{Added}
 use Rattle.delivery.proofs.base.base.Given as goal
 
-abbrev pub invariant-loop-place : goal.invariant-loop-place
-invariant-loop-place l = Added l.disturbance l.window l.targets l.samples l.place l.count l.sum
+abbrev pub invariant-loop-sample : goal.invariant-loop-sample
+invariant-loop-sample l = Added l.disturbance l.window l.targets l.samples l.sample-index l.count l.sum
