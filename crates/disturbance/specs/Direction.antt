@@ -1,5 +1,5 @@
 -- What frequency and power are by the direction of a disturbance.
-use Rattle.std.specs.Prelude.{ℕ, ℤ, pos, ◌-ℤ◌, neg_ℤ}
+use Rattle.std.specs.Prelude.{ℕ, ℤ, pos, ◌-ℤ◌, neg_ℤ, List, codes}
 use Rattle.disturbance.specs.declared.direction.Direction.{Direction}
 use Rattle.disturbance.specs.declared.direction.Direction.TheVariants.{Low, High}
 
@@ -16,3 +16,8 @@ dip High frequency = pos frequency -ℤ pos nominal
 abbrev pub push : Direction → ℤ → ℤ
 push Low power = power
 push High power = neg_ℤ power
+
+-- the word for a direction
+abbrev pub word : Direction → List ℕ
+word Low = codes "low"
+word High = codes "high"

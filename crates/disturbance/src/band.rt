@@ -14,7 +14,7 @@ pub(crate) const HIGHEST_INSIDE: u32 = 50_150;
 pub(crate) fn is_inside(sample: Sample) -> bool
     ensures { Decides result (Inside sample) }
 {
-    LOWEST_INSIDE <= sample.frequency && sample.frequency <= HIGHEST_INSIDE
+    (LOWEST_INSIDE..=HIGHEST_INSIDE).contains(&sample.frequency)
 }
 
 // The side on which a sample is outside.

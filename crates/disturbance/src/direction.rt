@@ -1,14 +1,40 @@
 // The direction of a disturbance, and what frequency and power are by it.
-ghost use Rattle.std.specs.Prelude.{◌≡◌};
-ghost use Rattle.disturbance.specs.Direction.{dip as dip_of, push as push_of};
+ghost use Rattle.std.specs.Prelude.{◌≡◌, Some};
+ghost use Rattle.disturbance.specs.Direction.{dip as dip_of, push as push_of, word};
+ghost use Rattle.disturbance.specs.Passing.{turned};
+
+use std::fmt;
 
 // The frequency that a network keeps, in mHz.
 pub const NOMINAL: u32 = 50_000;
 
-#[derive(Clone, Copy)]
+#[derive(Clone, Copy, Debug, PartialEq, Eq)]
 pub enum Direction {
     Low,
     High,
+}
+
+impl Direction {
+    // The side of nominal on which the network has recovered.
+    pub(crate) fn other(self) -> Direction
+        ensures { result ≡ turned self }
+    {
+        match self {
+            Direction::Low => Direction::High,
+            Direction::High => Direction::Low,
+        }
+    }
+}
+
+impl fmt::Display for Direction {
+    ghost output = { λ d. Some (word d) };
+
+    fn fmt<W: fmt::Write>(&self, f: &mut fmt::Formatter<W>) -> fmt::Result {
+        f.write_str(match self {
+            Direction::Low => "low",
+            Direction::High => "high",
+        })
+    }
 }
 
 // How far a frequency lies from nominal, in mHz, counted on the side of the disturbance. Wide

@@ -11,7 +11,7 @@ use crate::passing::first_between;
 use crate::trace::Trace;
 use recording::sample::Sample;
 
-#[derive(Clone, Copy)]
+#[derive(Clone, Copy, Debug, PartialEq, Eq)]
 pub struct Disturbance {
     pub time: u32,
     pub direction: Direction,

@@ -2,7 +2,7 @@
 ghost use Rattle.std.specs.Prelude.{◌≡◌, ℕ, ◌+◌, ◌-◌, true, Option as Maybe};
 ghost use Rattle.exact.specs.First.{FirstOrNone};
 ghost use Rattle.disturbance.specs.Direction.{nominal};
-ghost use Rattle.disturbance.specs.Passing.{PassedFrom, turned};
+ghost use Rattle.disturbance.specs.Passing.{PassedFrom};
 ghost use Rattle.disturbance.specs.Recovery.{recovery_dip, Recovered};
 
 use crate::direction::{Direction, NOMINAL};
@@ -12,15 +12,6 @@ use crate::trace::Trace;
 
 // The dip below which the network has recovered, in mHz.
 pub const RECOVERY_DIP: u32 = 0;
-
-fn other(direction: Direction) -> Direction
-    ensures { result ≡ turned direction }
-{
-    match direction {
-        Direction::Low => Direction::High,
-        Direction::High => Direction::Low,
-    }
-}
 
 // The first whole millisecond after a time at which the line has come above the recovery dip,
 // counted as a height on the other side of nominal.
@@ -37,5 +28,5 @@ pub fn recovery(trace: Trace, disturbance: Disturbance) -> Option<u32>
     ensures first { FirstOrNone (Recovered trace.entry.samples.now disturbance) result }
     ensures only { (o : Maybe ℕ) → FirstOrNone (Recovered trace.entry.samples.now disturbance) o → o ≡ result }
 {
-    first_above(trace, other(disturbance.direction), disturbance.time)
+    first_above(trace, disturbance.direction.other(), disturbance.time)
 }

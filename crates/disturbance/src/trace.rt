@@ -1,6 +1,6 @@
 // A trace: samples within their limits, at times that strictly rise.
-ghost use Rattle.std.specs.Prelude.{◌≡◌, ◌-◌, ◌<◌, true, length, Decides};
-ghost use Rattle.disturbance.specs.Trace.{at, Sound, Within};
+ghost use Rattle.std.specs.Prelude.{ℕ, ◌<◌, length, Decides};
+ghost use Rattle.disturbance.specs.Trace.{at, Rising, Sound, Within};
 
 use recording::sample::{GREATEST_FREQUENCY, GREATEST_POWER, LATEST, LEAST_FREQUENCY, Sample};
 
@@ -22,22 +22,23 @@ fn is_within(sample: Sample) -> bool
         && sample.power <= GREATEST_POWER
 }
 
-// Whether a sample is later than the one before it, if there is one.
-fn is_later(samples: &[Sample], k: usize) -> bool
-    requires { k < length samples.now }
-    ensures { Decides result (0 < k → (at samples.now (k - 1)).time < (at samples.now k).time) }
+// Whether every sample is within its limits.
+fn are_within(samples: &[Sample]) -> bool
+    ensures { Decides result ((k : ℕ) → k < length samples.now → Within (at samples.now k)) }
 {
-    k == 0 || samples[k - 1].time < samples[k].time
+    samples.iter().all(|sample| is_within(*sample))
+}
+
+// Whether times strictly rise.
+fn are_rising(samples: &[Sample]) -> bool
+    ensures { Decides result (Rising samples.now) }
+{
+    samples.is_sorted_by(|before, after| before.time < after.time)
 }
 
 // Whether samples are sound, so that `Trace { samples }` may be made of them.
 pub fn is_sound(samples: &[Sample]) -> bool
     ensures { Decides result (Sound samples.now) }
 {
-    for k in 0..samples.len() {
-        if !is_within(samples[k]) || !is_later(samples, k) {
-            return false;
-        }
-    }
-    true
+    are_within(samples) && are_rising(samples)
 }

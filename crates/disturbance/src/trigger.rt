@@ -14,10 +14,7 @@ use crate::trace::Trace;
 fn is_before(time: u32, recovery: Option<u32>) -> bool
     ensures { Decides result (Before recovery time) }
 {
-    match recovery {
-        None => true,
-        Some(end) => time < end,
-    }
+    recovery.is_none_or(|end| time < end)
 }
 
 // The first whole millisecond from the disturbance time on at which the height of the line is at
@@ -46,12 +43,5 @@ pub fn trigger_time(
     ensures first { FirstOrNone (Triggered trace.entry.samples.now disturbance recovery trigger) result }
     ensures only { (o : Maybe ℕ) → FirstOrNone (Triggered trace.entry.samples.now disturbance recovery trigger) o → o ≡ result }
 {
-    match first_reaching(trace, disturbance, trigger) {
-        Some(t) => if is_before(t, recovery) {
-            Some(t)
-        } else {
-            None
-        },
-        None => None,
-    }
+    first_reaching(trace, disturbance, trigger).filter(|t| is_before(*t, recovery))
 }

@@ -1,9 +1,12 @@
 // Refusals: why a call is sent back, and where.
-ghost use Rattle.std.specs.Prelude.{◌≡◌};
-ghost use Rattle.recording.specs.Refusals.{listed, field_number};
+ghost use Rattle.std.specs.Prelude.{◌≡◌, ◌++◌, Some, codes, decimal};
+ghost use Rattle.recording.specs.Refusals.{listed, field_number, refusal};
+
+use std::error::Error;
+use std::fmt;
 
 // The part of the work that sends a call back.
-#[derive(Clone, Copy)]
+#[derive(Clone, Copy, Debug, PartialEq, Eq)]
 pub enum Layer {
     Recording,
     Reading,
@@ -13,15 +16,15 @@ pub enum Layer {
 }
 
 // A field of a reading, or of an entry of a timeline.
-#[derive(Clone, Copy)]
+#[derive(Clone, Copy, Debug, PartialEq, Eq)]
 pub enum Field {
-    Time,
+    Time = 1,
     Frequency,
     Power,
 }
 
 // Every reason for which a call is sent back, in the checking order.
-#[derive(Clone, Copy)]
+#[derive(Clone, Copy, Debug, PartialEq, Eq)]
 pub enum Reason {
     // the table is not the one that the count, or the closed docket, belongs to
     OtherTable,
@@ -65,7 +68,7 @@ pub enum Reason {
 
 // What a refused call returns: the reason, with its listed number, layer and field; the place of the
 // member or entry; the byte position in the recording.
-#[derive(Clone, Copy)]
+#[derive(Clone, Copy, Debug, PartialEq, Eq)]
 pub struct Refusal {
     pub reason: Reason,
     pub place: usize,
@@ -77,11 +80,29 @@ impl Field {
     pub fn number(self) -> u8
         ensures { result ≡ field_number self }
     {
-        match self {
-            Field::Time => 1,
-            Field::Frequency => 2,
-            Field::Power => 3,
+        self as u8
+    }
+}
+
+impl Reason {
+    // The refusal for this reason at the place of a member or entry, which names no byte.
+    pub fn at(self, place: usize) -> Refusal
+        ensures { result ≡ refusal self place 0 }
+    {
+        Refusal {
+            reason: self,
+            place,
+            position: 0,
         }
+    }
+}
+
+// A reason that has no place of its own.
+impl From<Reason> for Refusal {
+    ghost from_gives = { λ reason r. r ≡ refusal reason 0 0 };
+
+    fn from(reason: Reason) -> Refusal {
+        reason.at(0)
     }
 }
 
@@ -139,3 +160,15 @@ impl Refusal {
         }
     }
 }
+
+// `refused` and the number.
+impl fmt::Display for Refusal {
+    ghost output = { λ r. Some (codes "refused " ++ decimal (listed r.reason).number) };
+
+    fn fmt<W: fmt::Write>(&self, f: &mut fmt::Formatter<W>) -> fmt::Result {
+        let number = self.number();
+        write!(f, "refused {number}")
+    }
+}
+
+impl Error for Refusal {}

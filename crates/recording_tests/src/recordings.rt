@@ -5,7 +5,6 @@ use recording::makes::{ByteRecording, Make};
 use recording::refusal::Refusal;
 use recording::sample::Sample;
 use std::process::Abort;
-use std::test::Fail;
 
 // (1 ms; 50,000 mHz; -2 W), then (2 ms; 50,001 mHz; 3 W), then 11 bytes more
 const WHOLE: [u8; 35] = [
@@ -19,27 +18,23 @@ const FLOATING: [u8; 36] = [
     0, 0, 3, 0x42, 0x48, 0, 0, 0xc1, 0x48, 0, 0,
 ];
 
+// What was got is this sample.
 fn is_sample(
     rt: &impl Abort,
     got: Result<Sample, ReadingFault>,
     time: u32,
     frequency: u32,
     power: i32,
-) -> Result<(), Fail> {
-    match got {
-        Ok(s) => {
-            assert_eq!(rt; s.time, time);
-            assert_eq!(rt; s.frequency, frequency);
-            assert_eq!(rt; s.power, power);
-            Ok(())
-        }
-        Err(_) => {
-            assert!(rt; false, "a sample was expected");
-            Ok(())
-        },
-    }
+) {
+    let sample = Sample {
+        time,
+        frequency,
+        power,
+    };
+    assert_eq!(rt; got, Ok(sample));
 }
 
+// What was got is a fault that, as a refusal, has this number, place, byte position and field.
 fn is_refused(
     rt: &impl Abort,
     got: Result<Sample, ReadingFault>,
@@ -47,71 +42,66 @@ fn is_refused(
     place: usize,
     position: usize,
     field: u8,
-) -> Result<(), Fail> {
-    match got {
-        Ok(_) => {
-            assert!(rt; false, "a refusal was expected");
-            Ok(())
-        },
-        Err(fault) => {
-            let refusal: Refusal = <Refusal as From<ReadingFault>>::from(fault);
-            assert_eq!(rt; refusal.number(), number);
-            assert_eq!(rt; refusal.place, place);
-            assert_eq!(rt; refusal.position, position);
-            assert_eq!(rt; refusal.field(), field);
-            Ok(())
-        }
-    }
+) {
+    let refused = got.map_err(|fault| {
+        let refusal = Refusal::from(fault);
+        (
+            refusal.number(),
+            refusal.place,
+            refusal.position,
+            refusal.field(),
+        )
+    });
+    assert_eq!(rt; refused, Err((number, place, position, field)));
 }
 
 #[test]
-fn an_empty_recording_has_no_member(rt: HostRuntime) -> Result<(), Fail> {
+fn an_empty_recording_has_no_member(rt: HostRuntime) {
     let recording = ByteRecording::new(Make::Whole, &WHOLE[0..0]);
     assert_eq!(rt; recording.count(), 0);
-    is_refused(&rt, sample_at(&recording, 0), 2, 0, 0, 0)?;
-    is_refused(&rt, sample_at(&recording, 9), 2, 9, 0, 0)
+    is_refused(&rt, sample_at(&recording, 0), 2, 0, 0, 0);
+    is_refused(&rt, sample_at(&recording, 9), 2, 9, 0, 0);
 }
 
 #[test]
-fn whole_records_stand_at_their_places(rt: HostRuntime) -> Result<(), Fail> {
+fn whole_records_stand_at_their_places(rt: HostRuntime) {
     let recording = ByteRecording::new(Make::Whole, &WHOLE[0..24]);
     assert_eq!(rt; recording.count(), 2);
-    is_sample(&rt, sample_at(&recording, 0), 1, 50_000, -2)?;
-    is_sample(&rt, sample_at(&recording, 1), 2, 50_001, 3)?;
-    is_refused(&rt, sample_at(&recording, 2), 2, 2, 0, 0)
+    is_sample(&rt, sample_at(&recording, 0), 1, 50_000, -2);
+    is_sample(&rt, sample_at(&recording, 1), 2, 50_001, 3);
+    is_refused(&rt, sample_at(&recording, 2), 2, 2, 0, 0);
 }
 
 #[test]
-fn leftover_bytes_are_a_last_member(rt: HostRuntime) -> Result<(), Fail> {
+fn leftover_bytes_are_a_last_member(rt: HostRuntime) {
     for extra in 1..12 {
         let recording = ByteRecording::new(Make::Whole, &WHOLE[0..24 + extra]);
         assert_eq!(rt; recording.count(), 3);
-        is_sample(&rt, sample_at(&recording, 1), 2, 50_001, 3)?;
-        is_refused(&rt, sample_at(&recording, 2), 3, 2, 24, 0)?;
-        is_refused(&rt, sample_at(&recording, 3), 2, 3, 0, 0)?;
+        is_sample(&rt, sample_at(&recording, 1), 2, 50_001, 3);
+        is_refused(&rt, sample_at(&recording, 2), 3, 2, 24, 0);
+        is_refused(&rt, sample_at(&recording, 3), 2, 3, 0, 0);
     }
-    Ok(())
 }
 
 #[test]
-fn a_cut_first_record_is_the_only_member(rt: HostRuntime) -> Result<(), Fail> {
+fn a_cut_first_record_is_the_only_member(rt: HostRuntime) {
     let recording = ByteRecording::new(Make::Floating, &FLOATING[0..11]);
     assert_eq!(rt; recording.count(), 1);
-    is_refused(&rt, sample_at(&recording, 0), 3, 0, 0, 0)
+    is_refused(&rt, sample_at(&recording, 0), 3, 0, 0, 0);
 }
 
 #[test]
-fn a_bad_member_in_the_middle_is_refused_alone(rt: HostRuntime) -> Result<(), Fail> {
+fn a_bad_member_in_the_middle_is_refused_alone(rt: HostRuntime) {
     let recording = ByteRecording::new(Make::Floating, &FLOATING);
     assert_eq!(rt; recording.count(), 3);
-    is_sample(&rt, sample_at(&recording, 0), 1, 50_000, 7_813)?;
-    is_refused(&rt, sample_at(&recording, 1), 4, 1, 12, 2)?;
-    is_sample(&rt, sample_at(&recording, 2), 3, 50_000, -12_500_000)
+    is_sample(&rt, sample_at(&recording, 0), 1, 50_000, 7_813);
+    is_refused(&rt, sample_at(&recording, 1), 4, 1, 12, 2);
+    is_sample(&rt, sample_at(&recording, 2), 3, 50_000, -12_500_000);
 }
 
 // The same bytes in the other make are other fields.
 #[test]
-fn the_make_decides_what_bytes_mean(rt: HostRuntime) -> Result<(), Fail> {
+fn the_make_decides_what_bytes_mean(rt: HostRuntime) {
     let recording = ByteRecording::new(Make::Whole, &FLOATING);
-    is_refused(&rt, sample_at(&recording, 2), 4, 2, 24, 2)
+    is_refused(&rt, sample_at(&recording, 2), 4, 2, 24, 2);
 }

@@ -2,16 +2,6 @@
 use recording::refusal::{Field, Layer, Reason, Refusal};
 use std::process::Abort;
 
-fn layer_number(layer: Layer) -> u8 {
-    match layer {
-        Layer::Recording => 1,
-        Layer::Reading => 2,
-        Layer::Docket => 3,
-        Layer::Delivery => 4,
-        Layer::Setup => 5,
-    }
-}
-
 fn is_listed(rt: &impl Abort, reason: Reason, number: u8, layer: Layer, field: u8) {
     let refusal = Refusal {
         reason,
@@ -19,7 +9,7 @@ fn is_listed(rt: &impl Abort, reason: Reason, number: u8, layer: Layer, field: u
         position: 36,
     };
     assert_eq!(rt; refusal.number(), number);
-    assert_eq!(rt; layer_number(refusal.layer()), layer_number(layer));
+    assert_eq!(rt; refusal.layer(), layer);
     assert_eq!(rt; refusal.field(), field);
 }
 

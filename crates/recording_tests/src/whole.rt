@@ -1,7 +1,7 @@
 // Readings in whole units: each limit, and the value just outside.
+use crate::expected::{gives, outside};
 use recording::reading::{Reading, WholeReading};
 use std::process::Abort;
-use std::test::Fail;
 
 fn reading(time: u32, frequency: u32, power: i32) -> Reading {
     Reading::Whole(WholeReading {
@@ -12,66 +12,46 @@ fn reading(time: u32, frequency: u32, power: i32) -> Reading {
 }
 
 // The reading gives itself as a sample.
-fn kept(rt: &impl Abort, time: u32, frequency: u32, power: i32) -> Result<(), Fail> {
-    match reading(time, frequency, power).sample() {
-        Ok(s) => {
-            assert_eq!(rt; s.time, time);
-            assert_eq!(rt; s.frequency, frequency);
-            assert_eq!(rt; s.power, power);
-            Ok(())
-        }
-        Err(field) => {
-            assert_eq!(rt; field.number(), 0, "a sample was expected");
-            Ok(())
-        },
-    }
+fn kept(rt: &impl Abort, time: u32, frequency: u32, power: i32) {
+    gives(rt, reading(time, frequency, power), time, frequency, power);
 }
 
 // The reading is refused for this field.
-fn outside(rt: &impl Abort, time: u32, frequency: u32, power: i32, number: u8) -> Result<(), Fail> {
-    match reading(time, frequency, power).sample() {
-        Ok(s) => {
-            assert_ne!(rt; s.time, time, "a refusal was expected");
-            Ok(())
-        },
-        Err(field) => {
-            assert_eq!(rt; field.number(), number);
-            Ok(())
-        },
-    }
+fn refused(rt: &impl Abort, time: u32, frequency: u32, power: i32, number: u8) {
+    outside(rt, reading(time, frequency, power), number);
 }
 
 #[test]
-fn each_limit_is_inside(rt: HostRuntime) -> Result<(), Fail> {
-    kept(&rt, 0, 50_000, 0)?;
-    kept(&rt, 1_200_000, 50_000, 0)?;
-    kept(&rt, 0, 47_000, 0)?;
-    kept(&rt, 0, 52_000, 0)?;
-    kept(&rt, 0, 50_000, -1_000_000_000)?;
-    kept(&rt, 0, 50_000, 1_000_000_000)
+fn each_limit_is_inside(rt: HostRuntime) {
+    kept(&rt, 0, 50_000, 0);
+    kept(&rt, 1_200_000, 50_000, 0);
+    kept(&rt, 0, 47_000, 0);
+    kept(&rt, 0, 52_000, 0);
+    kept(&rt, 0, 50_000, -1_000_000_000);
+    kept(&rt, 0, 50_000, 1_000_000_000);
 }
 
 #[test]
-fn just_beyond_each_limit_is_outside(rt: HostRuntime) -> Result<(), Fail> {
-    outside(&rt, 1_200_001, 50_000, 0, 1)?;
-    outside(&rt, 0, 46_999, 0, 2)?;
-    outside(&rt, 0, 52_001, 0, 2)?;
-    outside(&rt, 0, 50_000, -1_000_000_001, 3)?;
-    outside(&rt, 0, 50_000, 1_000_000_001, 3)
+fn just_beyond_each_limit_is_outside(rt: HostRuntime) {
+    refused(&rt, 1_200_001, 50_000, 0, 1);
+    refused(&rt, 0, 46_999, 0, 2);
+    refused(&rt, 0, 52_001, 0, 2);
+    refused(&rt, 0, 50_000, -1_000_000_001, 3);
+    refused(&rt, 0, 50_000, 1_000_000_001, 3);
 }
 
 #[test]
-fn the_widest_numbers_are_outside(rt: HostRuntime) -> Result<(), Fail> {
-    outside(&rt, u32::MAX, 50_000, 0, 1)?;
-    outside(&rt, 0, u32::MAX, 0, 2)?;
-    outside(&rt, 0, 0, 0, 2)?;
-    outside(&rt, 0, 50_000, i32::MIN, 3)?;
-    outside(&rt, 0, 50_000, i32::MAX, 3)
+fn the_widest_numbers_are_outside(rt: HostRuntime) {
+    refused(&rt, u32::MAX, 50_000, 0, 1);
+    refused(&rt, 0, u32::MAX, 0, 2);
+    refused(&rt, 0, 0, 0, 2);
+    refused(&rt, 0, 50_000, i32::MIN, 3);
+    refused(&rt, 0, 50_000, i32::MAX, 3);
 }
 
 #[test]
-fn the_first_field_outside_is_named(rt: HostRuntime) -> Result<(), Fail> {
-    outside(&rt, 1_200_001, 46_999, 1_000_000_001, 1)?;
-    outside(&rt, 1_200_000, 46_999, 1_000_000_001, 2)?;
-    outside(&rt, 1_200_001, 50_000, 1_000_000_001, 1)
+fn the_first_field_outside_is_named(rt: HostRuntime) {
+    refused(&rt, 1_200_001, 46_999, 1_000_000_001, 1);
+    refused(&rt, 1_200_000, 46_999, 1_000_000_001, 2);
+    refused(&rt, 1_200_001, 50_000, 1_000_000_001, 1);
 }
