@@ -1,5 +1,5 @@
 -- The limits of the settings, and of what a response rule is asked and answers. Dips are in mHz, rates in mHz/s, times in ms.
-use Rattle.std.specs.Prelude.{ℕ, ◌<◌, ◌≤◌}
+use Rattle.std.specs.Prelude.{◌≡◌, ℕ, ◌<◌, ◌≤◌, Result, MatchResult}
 use Rattle.recording.specs.declared.refusal.Reason.TheVariants.{SettingOutside}
 use Rattle.recording.specs.declared.refusal.Refusal.{Refusal}
 use Rattle.recording.specs.Refusals.{refusal}
@@ -35,3 +35,7 @@ IsOffset x = x ≤ 1200000
 -- what is answered to a setting outside its limits
 abbrev pub outside : Refusal
 outside = refusal SettingOutside 0 0
+
+-- what is asked for is granted exactly where it is within its limits, and P then holds of the value; anywhere else the answer is `outside`
+abbrev pub Granted : {X : Type 0} → Result X Refusal → (within : Type 0) → (X → Type 0) → Type 0
+Granted r within P = MatchResult r (λ x. within × P x) (λ e. ¬ within × (e ≡ outside))

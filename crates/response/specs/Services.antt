@@ -1,5 +1,5 @@
 -- The services, each with its code, its side and its group.
-use Rattle.std.specs.Prelude.{◌≡◌, ℕ, List, codes}
+use Rattle.std.specs.Prelude.{◌≡◌, ◌≢◌, ℕ, List, Result, MatchResult, codes}
 use Rattle.recording.specs.declared.refusal.Reason.TheVariants.{UnknownCode}
 use Rattle.recording.specs.declared.refusal.Refusal.{Refusal}
 use Rattle.recording.specs.Refusals.{refusal}
@@ -39,6 +39,10 @@ listed L5 = line (codes "L5") Lower Delayed
 -- what is answered to a text that is no service's code
 abbrev pub unknown : Refusal
 unknown = refusal UnknownCode 0 0
+
+-- r is the service with this code, or `unknown` where no service has it
+abbrev pub KnownBy : List ℕ → Result Service Refusal → Type 0
+KnownBy code r = MatchResult r (λ s. code ≡ (listed s).code) (λ e. ((s : Service) → code ≢ (listed s).code) × (e ≡ unknown))
 
 -- no two services have one code
 abbrev pub Apart : Type 0

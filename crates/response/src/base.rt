@@ -1,12 +1,12 @@
 // The base window: the part of a record before the disturbance that the base is taken from.
-ghost use Rattle.std.specs.Prelude.{◌≡◌, ℕ, ◌<◌, ◌≤◌, MatchResult};
-ghost use Rattle.response.specs.Limits.{IsBase, outside};
+ghost use Rattle.std.specs.Prelude.{◌≡◌, ℕ, ◌<◌, ◌≤◌};
+ghost use Rattle.response.specs.Limits.{IsBase, Granted};
 
-use crate::limits::{EARLIEST_BEGIN, OUTSIDE};
-use recording::refusal::Refusal;
+use crate::limits::EARLIEST_BEGIN;
+use recording::refusal::{Reason, Refusal};
 
 // From `begin` to `end`, in ms before the disturbance.
-#[derive(Clone, Copy)]
+#[derive(Clone, Copy, Debug, PartialEq, Eq)]
 pub struct BaseWindow {
     pub begin: u32,
     pub end: u32,
@@ -16,12 +16,12 @@ pub struct BaseWindow {
 impl BaseWindow {
     // The window from `begin` to `end`, which is refused outside the limits.
     pub fn new(begin: u32, end: u32) -> Result<BaseWindow, Refusal>
-        ensures { MatchResult result (λ w. (w.begin ≡ begin) × (w.end ≡ end)) (λ e. (IsBase begin end → ⊥) × (e ≡ outside)) }
+        ensures { Granted result (IsBase begin end) (λ w. (w.begin ≡ begin) × (w.end ≡ end)) }
     {
         if end < begin && begin <= EARLIEST_BEGIN {
             Ok(BaseWindow { begin, end })
         } else {
-            Err(OUTSIDE)
+            Err(Reason::SettingOutside.into())
         }
     }
 }

@@ -3,7 +3,7 @@ ghost use Rattle.std.specs.Prelude.{◌≡◌};
 ghost use Rattle.response.specs.Groups.{row_of, Sound};
 
 // A window in ms after the disturbance, and what its average is multiplied by.
-#[derive(Clone, Copy)]
+#[derive(Clone, Copy, Debug, PartialEq, Eq)]
 pub struct Window {
     pub start: u32,
     pub end: u32,
@@ -11,7 +11,7 @@ pub struct Window {
 }
 
 // Two windows, and the widest gap between neighbouring samples in them, in ms.
-#[derive(Clone, Copy)]
+#[derive(Clone, Copy, Debug, PartialEq, Eq)]
 pub struct Row {
     pub first: Window,
     pub second: Window,
@@ -19,7 +19,7 @@ pub struct Row {
 }
 
 // The services that are measured over the same windows.
-#[derive(Clone, Copy)]
+#[derive(Clone, Copy, Debug, PartialEq, Eq)]
 pub enum Group {
     Fast,
     Slow,

@@ -1,6 +1,4 @@
-// The limits of the settings, and the refusal of what lies outside them.
-use recording::refusal::{Reason, Refusal};
-
+// The limits of the settings.
 // The least and the greatest ramp rate, in mHz/s.
 pub const LEAST_RATE: u32 = 1;
 
@@ -15,10 +13,3 @@ pub const GREATEST_DIP: u32 = 2_000;
 pub const WIDEST_DEAD_BAND: u32 = 150;
 // The earliest begin of the base window, in ms before the disturbance.
 pub const EARLIEST_BEGIN: u32 = 60_000;
-
-// What is answered to a setting outside its limits.
-pub(crate) const OUTSIDE: Refusal = Refusal {
-    reason: Reason::SettingOutside,
-    place: 0,
-    position: 0,
-};

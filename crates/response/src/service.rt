@@ -1,21 +1,22 @@
 // Services: fast, slow and delayed, raise and lower, each known by its code.
-ghost use Rattle.std.specs.Prelude.{◌≡◌, Ok, Err, ◌≢◌};
-ghost use Rattle.response.specs.declared.service.Service.{Service as Listed};
-ghost use Rattle.response.specs.Services.{direction_of, listed, unknown, Apart};
+ghost use Rattle.std.specs.Prelude.{◌≡◌, Some};
+ghost use Rattle.response.specs.Services.{direction_of, listed, KnownBy, Apart};
 
 use crate::group::Group;
 use disturbance::direction::Direction;
 use recording::refusal::{Reason, Refusal};
+use std::fmt;
+use std::str::FromStr;
 
 // Raise answers a frequency that is too low, lower one that is too high.
-#[derive(Clone, Copy)]
+#[derive(Clone, Copy, Debug, PartialEq, Eq)]
 pub enum Side {
     Raise,
     Lower,
 }
 
 // A letter for the side and a number for the group.
-#[derive(Clone, Copy)]
+#[derive(Clone, Copy, Debug, PartialEq, Eq)]
 pub enum Service {
     R6,
     R60,
@@ -37,11 +38,12 @@ impl Side {
     }
 }
 
-impl Service {
-    // The service with this code. Any other text is refused.
-    pub fn from_code(code: &str) -> Result<Service, Refusal>
-        ensures { elim result [ Ok s ↦ code.now ≡ (listed s).code | Err e ↦ ((s : Listed) → code.now ≢ (listed s).code) × (e ≡ unknown) ] }
-    {
+impl FromStr for Service {
+    type Err = Refusal;
+
+    ghost from_str_gives = { KnownBy };
+
+    fn from_str(code: &str) -> Result<Service, Refusal> {
         match code {
             "R6" => Ok(Service::R6),
             "R60" => Ok(Service::R60),
@@ -49,12 +51,26 @@ impl Service {
             "L6" => Ok(Service::L6),
             "L60" => Ok(Service::L60),
             "L5" => Ok(Service::L5),
-            _ => Err(Refusal {
-                reason: Reason::UnknownCode,
-                place: 0,
-                position: 0,
-            }),
+            _ => Err(Reason::UnknownCode.into()),
         }
+    }
+}
+
+// A service is shown as its code.
+impl fmt::Display for Service {
+    ghost output = { λ service. Some (listed service).code };
+
+    fn fmt<W: fmt::Write>(&self, f: &mut fmt::Formatter<W>) -> fmt::Result {
+        f.write_str(self.code())
+    }
+}
+
+impl Service {
+    // The service with this code. Any other text is refused.
+    pub fn from_code(code: &str) -> Result<Service, Refusal>
+        ensures { KnownBy code.now result }
+    {
+        code.parse()
     }
 
     // The code by which the service is known.

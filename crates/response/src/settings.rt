@@ -1,15 +1,14 @@
 // Settings: what an owner fixes before a delivery is worked out.
-ghost use Rattle.std.specs.Prelude.{◌≡◌, ℕ, ◌<◌, ◌≤◌, MatchResult};
-ghost use Rattle.response.specs.Limits.{outside};
+ghost use Rattle.std.specs.Prelude.{◌≡◌, ℕ, ◌<◌, ◌≤◌, OnErr};
+ghost use Rattle.response.specs.Limits.{Granted};
 ghost use Rattle.response.specs.Settings.{Allowed, numbers_of, plain_numbers};
 
 use crate::base::BaseWindow;
-use crate::limits::{GREATEST_DIP, LEAST_REFERENCE, LEAST_SWITCH, OUTSIDE, WIDEST_DEAD_BAND};
 use crate::setup::{Rate, Response, Trigger};
 use recording::refusal::Refusal;
 
 // Settings as an owner asks for them, not yet held against their limits.
-#[derive(Clone, Copy)]
+#[derive(Clone, Copy, Debug, PartialEq, Eq)]
 pub struct Proposal {
     pub rate: u32,
     pub reference_dip: u32,
@@ -20,7 +19,7 @@ pub struct Proposal {
 }
 
 // Settings within their limits.
-#[derive(Clone, Copy)]
+#[derive(Clone, Copy, Debug, PartialEq, Eq)]
 pub struct Settings {
     pub response: Response,
     pub(crate) base: BaseWindow,
@@ -29,36 +28,13 @@ pub struct Settings {
 impl Settings {
     // The settings that are asked for, which are refused if any is outside its limits.
     pub fn new(proposal: Proposal) -> Result<Settings, Refusal>
-        ensures { MatchResult result (λ s. Allowed proposal × (numbers_of s ≡ proposal)) (λ e. (Allowed proposal → ⊥) × (e ≡ outside)) }
+        ensures { Granted result (Allowed proposal) (λ s. numbers_of s ≡ proposal) }
     {
-        let Proposal {
-            rate,
-            reference_dip,
-            dead_band,
-            switch_dip,
-            base_begin,
-            base_end,
-        } = proposal;
-        let rate = Rate::new(rate)?;
-        let base = BaseWindow::new(base_begin, base_end)?;
-        if reference_dip < LEAST_REFERENCE
-            || reference_dip > GREATEST_DIP
-            || dead_band > WIDEST_DEAD_BAND
-        {
-            return Err(OUTSIDE);
-        }
-        if switch_dip < LEAST_SWITCH || switch_dip > GREATEST_DIP {
-            return Err(OUTSIDE);
-        }
-        let switch_dip = Trigger { dip: switch_dip };
+        let rate = Rate::new(proposal.rate)?;
+        let switch_dip = Trigger::new(proposal.switch_dip)?;
         Ok(Settings {
-            response: Response {
-                rate,
-                reference_dip,
-                dead_band,
-                switch_dip,
-            },
-            base,
+            response: Response::new(rate, proposal.reference_dip, proposal.dead_band, switch_dip)?,
+            base: BaseWindow::new(proposal.base_begin, proposal.base_end)?,
         })
     }
 
@@ -92,7 +68,8 @@ impl Settings {
 
     // Takes other settings in the place of these, unless one of them is outside its limits: then these stay.
     pub fn change(&mut self, proposal: Proposal) -> Result<(), Refusal>
-        ensures { MatchResult result (λ _. Allowed proposal × (numbers_of self.new ≡ proposal)) (λ e. (Allowed proposal → ⊥) × (e ≡ outside) × (self.new ≡ self.old)) }
+        ensures granted { Granted result (Allowed proposal) (λ _. numbers_of self.new ≡ proposal) }
+        ensures kept { OnErr result (self.new ≡ self.old) }
     {
         *self = Settings::new(proposal)?;
         Ok(())

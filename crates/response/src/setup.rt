@@ -1,26 +1,28 @@
 // The parts of the settings that a response rule reads. None of them exists outside its limits.
-ghost use Rattle.std.specs.Prelude.{◌≡◌, ℕ, ◌≤◌, MatchResult};
-ghost use Rattle.response.specs.Limits.{Within, IsRate, IsReference, IsDeadBand, IsTrigger, outside};
+ghost use Rattle.std.specs.Prelude.{◌≡◌, ℕ, ◌≤◌};
+ghost use Rattle.response.specs.Limits.{Within, IsRate, IsReference, IsDeadBand, IsTrigger, Granted};
 
-use crate::limits::{GREATEST_RATE, LEAST_RATE, OUTSIDE};
-use recording::refusal::Refusal;
+use crate::limits::{
+    GREATEST_DIP, GREATEST_RATE, LEAST_RATE, LEAST_REFERENCE, LEAST_SWITCH, WIDEST_DEAD_BAND,
+};
+use recording::refusal::{Reason, Refusal};
 
 // How fast the dip is taken to grow, in mHz/s.
-#[derive(Clone, Copy)]
+#[derive(Clone, Copy, Debug, PartialEq, Eq)]
 pub struct Rate {
     pub mhz_per_s: u32,
     ghost within: { IsRate mhz_per_s },
 }
 
 // A dip that triggers a response, in mHz.
-#[derive(Clone, Copy)]
+#[derive(Clone, Copy, Debug, PartialEq, Eq)]
 pub struct Trigger {
     pub dip: u32,
     ghost within: { IsTrigger dip },
 }
 
 // What the response rules read. Dips are in mHz.
-#[derive(Clone, Copy)]
+#[derive(Clone, Copy, Debug, PartialEq, Eq)]
 pub struct Response {
     pub rate: Rate,
     pub reference_dip: u32,
@@ -33,12 +35,49 @@ pub struct Response {
 impl Rate {
     // The rate of so many mHz/s, which is refused outside the limits.
     pub fn new(mhz_per_s: u32) -> Result<Rate, Refusal>
-        ensures { MatchResult result (λ v. v.mhz_per_s ≡ mhz_per_s) (λ e. (IsRate mhz_per_s → ⊥) × (e ≡ outside)) }
+        ensures { Granted result (IsRate mhz_per_s) (λ rate. rate.mhz_per_s ≡ mhz_per_s) }
     {
-        if LEAST_RATE <= mhz_per_s && mhz_per_s <= GREATEST_RATE {
+        if (LEAST_RATE..=GREATEST_RATE).contains(&mhz_per_s) {
             Ok(Rate { mhz_per_s })
         } else {
-            Err(OUTSIDE)
+            Err(Reason::SettingOutside.into())
         }
+    }
+}
+
+impl Trigger {
+    // The trigger at a dip, which is refused outside the limits.
+    pub fn new(dip: u32) -> Result<Trigger, Refusal>
+        ensures { Granted result (IsTrigger dip) (λ trigger. trigger.dip ≡ dip) }
+    {
+        if (LEAST_SWITCH..=GREATEST_DIP).contains(&dip) {
+            Ok(Trigger { dip })
+        } else {
+            Err(Reason::SettingOutside.into())
+        }
+    }
+}
+
+impl Response {
+    // What the rules read, which is refused if the reference dip or the dead band is outside its limits.
+    pub fn new(
+        rate: Rate,
+        reference_dip: u32,
+        dead_band: u32,
+        switch_dip: Trigger,
+    ) -> Result<Response, Refusal>
+        ensures { Granted result (IsReference reference_dip × IsDeadBand dead_band) (λ r. (r.rate ≡ rate) × (r.reference_dip ≡ reference_dip) × (r.dead_band ≡ dead_band) × (r.switch_dip ≡ switch_dip)) }
+    {
+        if !(LEAST_REFERENCE..=GREATEST_DIP).contains(&reference_dip)
+            || dead_band > WIDEST_DEAD_BAND
+        {
+            return Err(Reason::SettingOutside.into());
+        }
+        Ok(Response {
+            rate,
+            reference_dip,
+            dead_band,
+            switch_dip,
+        })
     }
 }

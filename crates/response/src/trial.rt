@@ -1,7 +1,8 @@
 // Trials: another base window for a while. However a trial ends, the former window is put back.
 ghost use Rattle.std.specs.Prelude.{◌≡◌};
 ghost use Rattle.response.specs.Settings.{with_base};
-ghost use Rattle.response.specs.Trials.{Tried, first_of, both_of};
+ghost use Rattle.response.specs.Trials.{Tried, both_of};
+ghost use Rattle.std.specs.Result.{result_or};
 
 use crate::base::BaseWindow;
 use crate::settings::Settings;
@@ -45,7 +46,7 @@ impl<'a> Trial<'a> {
         ensures former { self.new.former ≡ self.old.former }
         ensures answer { Tried (T.Task.gives task.now) self.old.settings.now begin end result }
     {
-        tried(&mut *self.settings, begin, end, task)
+        self.settings.tried(begin, end, task)
     }
 }
 
@@ -61,66 +62,54 @@ impl Drop for Trial<'_> {
     }
 }
 
-// What a task gives in a trial of the window. Afterwards the settings are as they were.
-pub fn in_trial<T: Task>(
-    settings: &mut Settings,
-    window: BaseWindow,
-    task: &T,
-) -> Result<T::Answer, Refusal>
-    ensures same { settings.new ≡ settings.old }
-    ensures answer { result ≡ T.Task.gives task.now (with_base settings.old window) }
-{
-    let trial = Trial::begin(settings, window);
-    let answer = task.run(trial.settings())?;
-    Ok(answer)
-}
-
-// The same for a window that is not yet held against its limits.
-pub fn tried<T: Task>(
-    settings: &mut Settings,
-    begin: u32,
-    end: u32,
-    task: &T,
-) -> Result<T::Answer, Refusal>
-    ensures same { settings.new ≡ settings.old }
-    ensures answer { Tried (T.Task.gives task.now) settings.old begin end result }
-{
-    let window = BaseWindow::new(begin, end)?;
-    in_trial(settings, window, task)
-}
-
-// What a task gives in a trial of the first window, or, where that is refused, in one of the second.
-pub fn first_accepted<T: Task>(
-    settings: &mut Settings,
-    first: BaseWindow,
-    second: BaseWindow,
-    task: &T,
-) -> Result<T::Answer, Refusal>
-    ensures same { settings.new ≡ settings.old }
-    ensures answer { result ≡ first_of (T.Task.gives task.now (with_base settings.old first)) (T.Task.gives task.now (with_base settings.old second)) }
-{
+impl Settings {
+    // What a task gives in a trial of the window. Afterwards the settings are as they were.
+    pub fn in_trial<T: Task>(&mut self, window: BaseWindow, task: &T) -> Result<T::Answer, Refusal>
+        ensures same { self.new ≡ self.old }
+        ensures answer { result ≡ T.Task.gives task.now (with_base self.old window) }
     {
-        let trial = Trial::begin(settings, first);
-        if let Ok(answer) = task.run(trial.settings()) {
-            return Ok(answer);
+        let trial = Trial::begin(self, window);
+        task.run(trial.settings())
+    }
+
+    // The same for a window that is not yet held against its limits.
+    pub fn tried<T: Task>(&mut self, begin: u32, end: u32, task: &T) -> Result<T::Answer, Refusal>
+        ensures same { self.new ≡ self.old }
+        ensures answer { Tried (T.Task.gives task.now) self.old begin end result }
+    {
+        let window = BaseWindow::new(begin, end)?;
+        self.in_trial(window, task)
+    }
+
+    // What a task gives in a trial of the first window, or, where that is refused, in one of the second.
+    pub fn first_accepted<T: Task>(
+        &mut self,
+        first: BaseWindow,
+        second: BaseWindow,
+        task: &T,
+    ) -> Result<T::Answer, Refusal>
+        ensures same { self.new ≡ self.old }
+        ensures answer { result ≡ result_or (T.Task.gives task.now (with_base self.old first)) (T.Task.gives task.now (with_base self.old second)) }
+    {
+        match self.in_trial(first, task) {
+            Err(_) => self.in_trial(second, task),
+            accepted => accepted,
         }
     }
-    let trial = Trial::begin(settings, second);
-    task.run(trial.settings())
-}
 
-// What a task gives in a trial inside a trial, and then in the outer one, to which the inner one returns.
-pub fn both_nested<T: Task>(
-    settings: &mut Settings,
-    inner: BaseWindow,
-    outer: BaseWindow,
-    task: &T,
-) -> Result<(T::Answer, T::Answer), Refusal>
-    ensures same { settings.new ≡ settings.old }
-    ensures answer { result ≡ both_of (T.Task.gives task.now (with_base settings.old inner)) (T.Task.gives task.now (with_base settings.old outer)) }
-{
-    let trial = Trial::begin(settings, outer);
-    let within = in_trial(&mut *trial.settings, inner, task)?;
-    let after = task.run(trial.settings())?;
-    Ok((within, after))
+    // What a task gives in a trial inside a trial, and then in the outer one, to which the inner one returns.
+    pub fn both_nested<T: Task>(
+        &mut self,
+        inner: BaseWindow,
+        outer: BaseWindow,
+        task: &T,
+    ) -> Result<(T::Answer, T::Answer), Refusal>
+        ensures same { self.new ≡ self.old }
+        ensures answer { result ≡ both_of (T.Task.gives task.now (with_base self.old inner)) (T.Task.gives task.now (with_base self.old outer)) }
+    {
+        let trial = Trial::begin(self, outer);
+        let within = trial.settings.in_trial(inner, task)?;
+        let after = task.run(trial.settings())?;
+        Ok((within, after))
+    }
 }

@@ -48,7 +48,7 @@ impl Variable {
         let ramp = 1_000 * RAMP_START + offset.ms as u64 * self.rate.mhz_per_s as u64;
         let over = ramp.min(1_000 * self.response.reference_dip as u64) as u32 - 1_000 * dead;
         Weight {
-            n: over.min(3 * d).max(d),
+            n: over.clamp(d, 3 * d),
             d,
         }
     }
