@@ -8,6 +8,13 @@ use disturbance::trace::Trace;
 use figure::span::Span;
 use response::group::Window;
 
+// The two windows of a service.
+#[derive(Clone, Copy)]
+pub(crate) struct Spans {
+    pub(crate) first: Span,
+    pub(crate) second: Span,
+}
+
 // The earlier of a time and any recovery.
 fn cut(recovery: Option<u32>, time: i64) -> i64
     ensures { result ≡ cut_at recovery time }
