@@ -7,6 +7,7 @@ use Rattle.recording.specs.declared.refusal.Reason.{Reason}
 use Rattle.recording.specs.declared.refusal.Reason.TheVariants.{NoTriggerTime}
 use Rattle.recording.specs.declared.refusal.Refusal.{Refusal}
 use Rattle.recording.specs.Refusals.{refusal}
+use Rattle.timeline.specs.declared.target.Target.{Target}
 use Rattle.timeline.specs.Checks.{Fault, FirstFault}
 use Rattle.timeline.proofs.Checks.{first_in_front, first_behind}
 use Rattle.exact.specs.First.{FirstOrNone}
@@ -88,11 +89,11 @@ abbrev values_by : Asked → Option ℕ → ℕ → Fraction → Window → Frac
 values_by a recovery T base = value_of to_half_up (compensated to_half_up a.weight T base) (used_points recovery (points_of a))
 
 -- a report that is filled in from the two values is the report
-module _ (a : Asked) (recovery : Option ℕ) (z : ℤ) (basis : Basis) (window : BaseWindow) (one two : Span) (bases : window ≡ a.settings.base) (first : one ≡ first_span a recovery z) (second : two ≡ second_span a recovery z)
-    (time : basis.disturbance ≡ a.disturbance.time) (base : whole basis.base ≡ base_of to_half_up a.disturbance.direction (take (a.count - 0) a.table) a.disturbance.time window (points_of a)) where
+module _ (a : Asked) (recovery : Option ℕ) (z : ℤ) (basis : Basis) (window : BaseWindow) (gs : List Target) (one two : Span) (bases : window ≡ a.settings.base) (first : one ≡ first_span a recovery z) (second : two ≡ second_span a recovery z)
+    (time : basis.disturbance ≡ a.disturbance.time) (counted : gs ≡ take a.count a.table) (base : whole basis.base ≡ base_of to_half_up a.disturbance.direction gs a.disturbance.time window (points_of a)) where
   from_base : whole basis.base ≡ base_in to_half_up (case_of a recovery z)
   from_base =
-      base ∙ ap (λ (n : ℕ). base_of to_half_up a.disturbance.direction (take n a.table) a.disturbance.time window (points_of a)) (omega arith)
+      base ∙ ap (λ (hs : List Target). base_of to_half_up a.disturbance.direction hs a.disturbance.time window (points_of a)) counted
       ∙ ap (λ (w : BaseWindow). base_of to_half_up a.disturbance.direction (take a.count a.table) a.disturbance.time w (points_of a)) bases
 
   valued : (w : Window) → values_by a recovery basis.disturbance (whole basis.base) w ≡ values_by a recovery a.disturbance.time (base_in to_half_up (case_of a recovery z)) w

@@ -41,19 +41,19 @@ module _ {X : Type 0} (p : X → Bool) where
 
 module _ (gs : List Target) (p : Point → Bool) where
   abbrev pub Misses : Point → Type 0
-  Misses x = (p x ≡ true) × Missed gs x.time
+  Misses x = (p x ≡ true) × ((0 < length gs) × Missed gs x.time)
 
-  one_missed : (points : List Point) (d : Point) (k : ℕ) → k < length points → Misses (get_or points k d) → OneMissed gs (filter p points)
+  one_missed : (points : List Point) (d : Point) (k : ℕ) → k < length points → Misses (get_or points k d) → (0 < length gs) × OneMissed gs (filter p points)
   one_missed points d k lt h = let has = keeps p points k d lt h.0 in
-      (has.0, has.1, λ q. subst (λ (x : Point). Missed gs x.time) (sym (has.2 q)) h.1)
+      (h.1.0, (has.0, has.1, λ q. subst (λ (x : Point). Missed gs x.time) (sym (has.2 q)) h.1.1))
 
-  none_missed : (points : List Point) (d : Point) → ((k : ℕ) → k < length points → Misses (get_or points k d) → ⊥) → OneMissed gs (filter p points) → ⊥
-  none_missed points d h one =
+  none_missed : (points : List Point) (d : Point) → ((k : ℕ) → k < length points → Misses (get_or points k d) → ⊥) → (0 < length gs) × OneMissed gs (filter p points) → ⊥
+  none_missed points d h (some, one) =
       let no : AllByRecursion (λ x. Misses x → ⊥) (filter p points) = all_kept_by p _ points (All-from_get_or _ points d h) in
-      All-get_or (λ (x : Point). Misses x → ⊥) (filter p points) one.0 d one.1 no (All-get_or (λ (x : Point). p x ≡ true) (filter p points) one.0 d one.1 (kept_by_passes p points), one.2 d)
+      All-get_or (λ (x : Point). Misses x → ⊥) (filter p points) one.0 d one.1 no (All-get_or (λ (x : Point). p x ≡ true) (filter p points) one.0 d one.1 (kept_by_passes p points), (some, one.2 d))
 
   -- what a search of the list answers, before f has gone over it
-  pub misses_decided : {A : Type 0} (f : A → Point) (a : A) (q : Point) (xs : List A) (r : Bool) → MatchBool r ((k : ℕ) × (k < length xs) × HoldsAt (λ x. Misses (f x)) xs k) (AllWithin (λ x. Misses (f x) → ⊥) xs 0 (length xs)) → Decides r (OneMissed gs (filter p (map f xs)))
+  pub misses_decided : {A : Type 0} (f : A → Point) (a : A) (q : Point) (xs : List A) (r : Bool) → MatchBool r ((k : ℕ) × (k < length xs) × HoldsAt (λ x. Misses (f x)) xs k) (AllWithin (λ x. Misses (f x) → ⊥) xs 0 (length xs)) → Decides r ((0 < length gs) × OneMissed gs (filter p (map f xs)))
   misses_decided f a q xs true h = (
     λ _. one_missed (map f xs) q h.0 (omega (arith, h.1, length-map xs f)) (subst Misses (sym (get_or-map f xs h.0 a q h.1)) (h.2 a)),
     λ _. refl,

@@ -1,21 +1,18 @@
 // What bars a delivery, in the checking order.
-ghost use Rattle.std.specs.Prelude.{◌≡◌, ◌⊎◌, Decides};
+ghost use Rattle.std.specs.Prelude.{◌≡◌, ◌⊎◌, take, IfOk, Decides};
 ghost use Rattle.std.specs.Result.{result_err};
 ghost use Rattle.timeline.specs.Checks.{FirstFault};
 ghost use Rattle.figure.specs.Defects.{BadAmount, WrongSide, Beyond, early_defects, span_defects};
 
 use crate::gaps::is_gapped;
-use crate::missing::{is_missed, lacks_base};
+use crate::ground::Ground;
 use crate::spans::{Spans, is_beyond, is_empty};
+use crate::targets::{Targets, counted};
 use crate::terms::Terms;
 use disturbance::direction::Direction;
-use disturbance::disturbance::Disturbance;
 use disturbance::trace::Trace;
 use recording::refusal::Reason;
-use recording::sample::Sample;
-use response::base::BaseWindow;
 use response::service::Side;
-use timeline::order::is_sound;
 use timeline::target::Target;
 
 // The greatest amount that can be enabled, in W.
@@ -35,33 +32,30 @@ fn is_wrong_side(side: Side, direction: Direction) -> bool
     side.direction() != direction
 }
 
-// The first defect that asks nothing of recovery and windows.
-pub(crate) fn early_defect(
-    samples: &[Sample],
-    disturbance: Disturbance,
-    window: BaseWindow,
-    targets: &[Target],
+// The first defect that asks nothing of recovery and windows; without one, the counted targets.
+pub(crate) fn early_defect<'a>(
+    ground: Ground,
+    table: &'a [Target],
     count: usize,
     terms: Terms,
-) -> Result<(), Reason>
-    ensures { FirstFault (early_defects samples.now disturbance window targets.now count terms.side terms.enabled) (result_err result) }
+) -> Result<Targets<'a>, Reason>
+    ensures defect { FirstFault (early_defects ground.entry.trace.samples.now ground.entry.disturbance ground.entry.window table.now count terms.side terms.enabled) (result_err result) }
+    ensures counted { IfOk result (λ targets. targets.all.now ≡ take count table.now) }
 {
     if is_bad_amount(terms.enabled) {
         return Err(Reason::AmountOutside);
     }
-    if is_wrong_side(terms.side, disturbance.direction) {
+    if is_wrong_side(terms.side, ground.disturbance.direction) {
         return Err(Reason::OtherDirection);
     }
-    if !is_sound(targets, count) {
-        return Err(Reason::OtherTargets);
-    }
-    if lacks_base(samples, disturbance, window) {
+    let targets = counted(table, count)?;
+    if ground.lacks_base() {
         return Err(Reason::NoBaseSample);
     }
-    if is_missed(&targets[0..count], samples, disturbance, window) {
+    if ground.is_missed(targets) {
         return Err(Reason::OutsideTargets);
     }
-    Ok(())
+    Ok(targets)
 }
 
 // Whether one of two windows that are not empty begins before the first sample or ends after the
