@@ -61,10 +61,8 @@ pub(crate) fn is_beyond(trace: Trace, span: Span) -> bool
     if is_empty(span) {
         return false;
     }
-    let samples = trace.samples;
-    let count = samples.len();
-    if count == 0 {
+    let (Some(first), Some(last)) = (trace.samples.first(), trace.samples.last()) else {
         return true;
-    }
-    span.start < samples[0].time as i64 || (samples[count - 1].time as i64) < span.end
+    };
+    span.start < first.time as i64 || (last.time as i64) < span.end
 }

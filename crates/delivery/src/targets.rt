@@ -34,10 +34,9 @@ impl Targets<'_> {
     pub(crate) fn miss(self, time: u32) -> bool
         ensures { Decides result ((0 < length self.entry.all.now) × (Missed self.entry.all.now time)) }
     {
-        let targets = self.all;
-        if targets.is_empty() {
+        let (Some(first), Some(last)) = (self.all.first(), self.all.last()) else {
             return false;
-        }
-        time < targets[0].time || targets[targets.len() - 1].time < time
+        };
+        time < first.time || last.time < time
     }
 }
