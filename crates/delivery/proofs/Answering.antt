@@ -1,10 +1,13 @@
 -- From what the parts of the code answer to the answer to what is asked.
 use Rattle.std.proofs.Common.{◌≡◌, ℕ, ◌-◌, List, take, ℤ, IfOk, Some, None, Ok, Err, Option, Result, sym, refl, ap, ◌∙◌, subst, arith}
+use Rattle.std.specs.Option.{ok_or}
+use Rattle.std.specs.Result.{IsErrAnd}
 use Rattle.exact.specs.Fractions.{Fraction, whole}
 use Rattle.recording.specs.declared.refusal.Reason.{Reason}
 use Rattle.recording.specs.declared.refusal.Reason.TheVariants.{NoTriggerTime}
 use Rattle.recording.specs.declared.refusal.Refusal.{Refusal}
 use Rattle.recording.specs.Refusals.{refusal}
+use Rattle.timeline.specs.declared.target.Target.{Target}
 use Rattle.timeline.specs.Checks.{Fault, FirstFault}
 use Rattle.timeline.proofs.Checks.{first_in_front, first_behind}
 use Rattle.exact.specs.First.{FirstOrNone}
@@ -32,6 +35,19 @@ use Rattle.delivery.specs.Filling.{Filled}
 abbrev pub early_of : Asked → List (Fault Reason)
 early_of a = early_defects a.samples a.disturbance a.settings.base a.table a.count a.side a.amount
 
+-- r is the refusal for this reason, which has no place of its own
+abbrev pub Refuses : Reason → Result Report Refusal → Type 0
+Refuses why r = IsErrAnd r (λ f. f ≡ refusal why 0 0)
+
+-- the shift, where there is one, and else the reason
+pub shift_lost : (o : Option ℤ) (r : Result ℤ Reason) (why : Reason) → r ≡ ok_or o NoTriggerTime → r ≡ Err why → (o ≡ None) × (why ≡ NoTriggerTime)
+shift_lost None r why e f = (refl, cc)
+shift_lost (Some z) r why e f = cc
+
+pub shift_found : (o : Option ℤ) (r : Result ℤ Reason) (z : ℤ) → r ≡ ok_or o NoTriggerTime → r ≡ Ok z → o ≡ Some z
+shift_found None r z e f = cc
+shift_found (Some y) r z e f = cc
+
 -- what the code has in hand: the recovery, the rule's trigger and its time, and the base window
 module _ (a : Asked) (recovery S : Option ℕ) (trigger : Option Trigger) (base : BaseWindow) (asks : trigger ≡ a.trigger) (bases : base ≡ a.settings.base)
     (recovers : FirstOrNone (Recovered a.samples a.disturbance) recovery) (triggers : TriggerTime a.samples a.disturbance recovery trigger S) where
@@ -44,15 +60,16 @@ module _ (a : Asked) (recovery S : Option ℕ) (trigger : Option Trigger) (base 
   pub shifts : {o : Option ℤ} → o ≡ shift_of a.settings.response.rate.mhz_per_s a.disturbance.time trigger S → shift_in a S ≡ o
   shifts e = sym (e ∙ ap (λ (g : Option Trigger). shift_of a.settings.response.rate.mhz_per_s a.disturbance.time g S) asks)
 
-  refused : (why : Reason) (f : Refusal) → FirstFault (defects a recovery S) (Some why) → f ≡ refusal why 0 0 → Delivers a (Err f)
-  refused why f h e = record { recovery = recovery; trigger_time = S; times = times; why = Some why; first = h; answer = ap Err e }
+  refused : (why : Reason) (r : Result Report Refusal) → FirstFault (defects a recovery S) (Some why) → Refuses why r → Delivers a r
+  refused why (Ok report) h e = absurd e
+  refused why (Err f) h e = record { recovery = recovery; trigger_time = S; times = times; why = Some why; first = h; answer = ap Err e }
 
-  pub refused_early : (why : Reason) (f : Refusal) → FirstFault (early_defects a.samples a.disturbance base a.table a.count a.side a.amount) (Some why) → f ≡ refusal why 0 0 → Delivers a (Err f)
-  refused_early why f h e = refused why f (first_in_front (early_of a) (window_defects a recovery S) why (earlier (Some why) h)) e
+  pub refused_early : (why : Reason) (r : Result Report Refusal) → FirstFault (early_defects a.samples a.disturbance base a.table a.count a.side a.amount) (Some why) → Refuses why r → Delivers a r
+  refused_early why r h e = refused why r (first_in_front (early_of a) (window_defects a recovery S) why (earlier (Some why) h)) e
 
   module _ (early : FirstFault (early_defects a.samples a.disturbance base a.table a.count a.side a.amount) None) where
-    pub refused_never : (f : Refusal) → shift_in a S ≡ None → f ≡ refusal NoTriggerTime 0 0 → Delivers a (Err f)
-    refused_never f none e = refused NoTriggerTime f (first_behind (early_of a) (window_defects a recovery S) _ (earlier None early) (never_first a recovery S times.triggers none)) e
+    pub refused_never : (why : Reason) (r : Result Report Refusal) → (shift_in a S ≡ None) × (why ≡ NoTriggerTime) → Refuses why r → Delivers a r
+    refused_never why r none e = refused why r (subst (λ (w : Reason). FirstFault (defects a recovery S) (Some w)) (sym none.1) (first_behind (early_of a) (window_defects a recovery S) _ (earlier None early) (never_first a recovery S times.triggers none.0))) e
 
     -- the windows at the shift
     module _ (z : ℤ) (shifted : shift_in a S ≡ Some z) (one two : Span) (first : one ≡ first_span a recovery z) (second : two ≡ second_span a recovery z) where
@@ -61,8 +78,8 @@ module _ (a : Asked) (recovery S : Option ℕ) (trigger : Option Trigger) (base 
           (subst (λ (w : Span). FirstFault (span_defects a.samples a.row.widest_gap (first_span a recovery z) w) r) second
           (subst (λ (w : Span). FirstFault (span_defects a.samples a.row.widest_gap w two) r) first h)))
 
-      pub refused_late : (why : Reason) (f : Refusal) → FirstFault (span_defects a.samples a.row.widest_gap one two) (Some why) → f ≡ refusal why 0 0 → Delivers a (Err f)
-      refused_late why f h e = refused why f (later (Some why) h) e
+      pub refused_late : (why : Reason) (r : Result Report Refusal) → FirstFault (span_defects a.samples a.row.widest_gap one two) (Some why) → Refuses why r → Delivers a r
+      refused_late why r h e = refused why r (later (Some why) h) e
 
       pub reported : (report : Report) → FirstFault (span_defects a.samples a.row.widest_gap one two) None → Reports a recovery z report → Delivers a (Ok report)
       reported report h r = record { recovery = recovery; trigger_time = S; times = times; why = None; first = later None h; answer = (z, report, shifted, refl, r) }
@@ -72,11 +89,11 @@ abbrev values_by : Asked → Option ℕ → ℕ → Fraction → Window → Frac
 values_by a recovery T base = value_of to_half_up (compensated to_half_up a.weight T base) (used_points recovery (points_of a))
 
 -- a report that is filled in from the two values is the report
-module _ (a : Asked) (recovery : Option ℕ) (z : ℤ) (basis : Basis) (window : BaseWindow) (one two : Span) (bases : window ≡ a.settings.base) (first : one ≡ first_span a recovery z) (second : two ≡ second_span a recovery z)
-    (time : basis.disturbance ≡ a.disturbance.time) (base : whole basis.base ≡ base_of to_half_up a.disturbance.direction (take (a.count - 0) a.table) a.disturbance.time window (points_of a)) where
+module _ (a : Asked) (recovery : Option ℕ) (z : ℤ) (basis : Basis) (window : BaseWindow) (gs : List Target) (one two : Span) (bases : window ≡ a.settings.base) (first : one ≡ first_span a recovery z) (second : two ≡ second_span a recovery z)
+    (time : basis.disturbance ≡ a.disturbance.time) (counted : gs ≡ take a.count a.table) (base : whole basis.base ≡ base_of to_half_up a.disturbance.direction gs a.disturbance.time window (points_of a)) where
   from_base : whole basis.base ≡ base_in to_half_up (case_of a recovery z)
   from_base =
-      base ∙ ap (λ (n : ℕ). base_of to_half_up a.disturbance.direction (take n a.table) a.disturbance.time window (points_of a)) (omega arith)
+      base ∙ ap (λ (hs : List Target). base_of to_half_up a.disturbance.direction hs a.disturbance.time window (points_of a)) counted
       ∙ ap (λ (w : BaseWindow). base_of to_half_up a.disturbance.direction (take a.count a.table) a.disturbance.time w (points_of a)) bases
 
   valued : (w : Window) → values_by a recovery basis.disturbance (whole basis.base) w ≡ values_by a recovery a.disturbance.time (base_in to_half_up (case_of a recovery z)) w

@@ -1,13 +1,13 @@
 -- The push of a base point, and the loop that adds the pushes up.
-use Rattle.std.proofs.Common.{◌≡◌, ℕ, ◌+◌, ◌*◌, ◌^◌, ◌<◌, ◌≤◌, Bool, true, false, cond, List, [], ◌∷◌, length, get_or, drop, ℤ, pos, ◌+ℤ◌, ◌-ℤ◌, ◌*ℤ◌, sym, refl, ap, ◌∙◌, subst, arith, w32, w64, SFits, to_z, of_z}
+use Rattle.std.proofs.Common.{◌≡◌, ℕ, ◌+◌, ◌*◌, ◌^◌, ◌<◌, ◌≤◌, Bool, true, false, cond, eqb, List, [], ◌∷◌, length, get_or, drop, ℤ, pos, ◌+ℤ◌, ◌-ℤ◌, ◌*ℤ◌, sym, refl, ap, ◌∙◌, subst, arith, w32, w64, SFits, to_z, of_z}
 use lib.IntN.{+ℤ_assoc, +ℤ_idl, +ℤ_idr}
 use mir.Syntax.{w128}
 use borrow.Author.Differences.{ints, neg_is}
 use Rattle.std.specs.Int.{int_max}
 use Rattle.std.specs.List.{AllByRecursion}
 use Rattle.std.proofs.lemmas.Int.{clamps, to_z-of_z}
-use Rattle.std.proofs.ByRecursion.{All-get_or}
-use Rattle.std.proofs.lemmas.List.{drop_all}
+use Rattle.std.proofs.lemmas.List.{drop_all, get_or_default}
+use Rattle.std.proofs.lemmas.Bool.{eqb-false}
 use Rattle.exact.specs.Fractions.{Fraction, whole, frac}
 use Rattle.exact.specs.Rounding.{half_up}
 use Rattle.exact.specs.Averages.{sum_of, mean}
@@ -23,9 +23,9 @@ use Rattle.disturbance.specs.Direction.{push}
 use Rattle.disturbance.specs.declared.disturbance.Disturbance.{Disturbance}
 use Rattle.response.specs.declared.base.BaseWindow.{BaseWindow}
 use Rattle.figure.specs.declared.point.Point.{Point}
-use Rattle.figure.specs.Points.{course, origin}
+use Rattle.figure.specs.Points.{turned, course}
 use Rattle.figure.specs.Steps.{to_half_up, trajectory, base_push, is_base, base_points}
-use Rattle.delivery.specs.Limits.{Aimed, BeginsBy}
+use Rattle.delivery.specs.Limits.{Aimed, BeginsBy, no_target}
 use Rattle.delivery.proofs.Courses.{opens, passed_all}
 use Rattle.delivery.proofs.Held.{Held, held, HeldSum, held_sum, hundred}
 
@@ -35,9 +35,9 @@ turned_within Low power h = h
 turned_within High power h = let l = within_out h in within_in (omega (arith, neg_is power)) (omega (arith, neg_is power))
 
 -- the power of target i, turned and in hundredths: q is what it is turned to, r the hundredths
-pub aimed : (d : Direction) (gs : List Target) (i : ℕ) (g : Target) {q r : ℤ} → i < length gs → AllByRecursion Aimed gs → q ≡ push d (to_z w32 (of_z w32 (get_or gs i g).power)) → r ≡ to_z w64 (of_z w64 q) *ℤ pos 100 → Held 100000000000 r (push d (get_or gs i g).power *ℤ pos 100)
+pub aimed : (d : Direction) (gs : List Target) (i : ℕ) (g : Target) {q r : ℤ} → i < length gs → ((k : ℕ) → k < length gs → Aimed (get_or gs k no_target)) → q ≡ push d (to_z w32 (of_z w32 (get_or gs i g).power)) → r ≡ to_z w64 (of_z w64 q) *ℤ pos 100 → Held 100000000000 r (push d (get_or gs i g).power *ℤ pos 100)
 aimed d gs i g {q} {r} lt h e f =
-    let w = (All-get_or Aimed gs i g lt h).power_within in
+    let w = subst (λ (t : Target). Within 1000000000 t.power) (get_or_default gs i no_target g lt) (h i lt).power_within in
     let l = within_out w in
     let small : SFits w32 (get_or gs i g).power = omega (arith, ints) in
     let e' : q ≡ push d (get_or gs i g).power = e ∙ ap (push d) (to_z-of_z w32 (get_or gs i g).power small) in
@@ -55,6 +55,13 @@ pub rise_within : (a b : ℤ) → Within 100000000000 a → Within 100000000000 
 rise_within a b h k = let l = within_out (within-- h k) in within_in (omega (arith, ints, clamps)) (omega (arith, ints, clamps))
 
 -- ---- the sum of the pushes of the base points
+pub some_there : (n : ℕ) → eqb n 0 ≡ false → 0 < n
+some_there n e = omega (arith, eqb-false n 0 e)
+
+pub some_kept : (ps : List Point) → (ps ≡ [] → ⊥) → 0 < length ps
+some_kept [] h = absurd (h refl)
+some_kept (p ∷ ps) h = omega arith
+
 abbrev push_in : Disturbance → List Target → Point → Fraction
 push_in D gs = base_push to_half_up D.direction gs D.time
 
@@ -83,10 +90,10 @@ module _ {D : Disturbance} {w : BaseWindow} {gs : List Target} {xs : List Sample
   Knows p = BeginsBy (λ g. g.time) p.time gs
 
   -- the next point is p
-  module _ {p : Point} (lt : i < length xs) (at : p ≡ get_or (course D.direction xs) i origin) where
+  module _ {p : Point} (lt : i < length xs) (x : Sample) (at : p ≡ turned D.direction (get_or xs i x)) where
     -- what is left, by whether p counts
     left : (b : Bool) → is_base D.time w p ≡ b → counted (drop i ps) ≡ cond b (p ∷ counted (drop (i + 1) ps)) (counted (drop (i + 1) ps))
-    left b e = ap counted (opens D.direction xs i lt p at) ∙ ap (λ (x : Bool). cond x (p ∷ counted (drop (i + 1) ps)) (counted (drop (i + 1) ps))) e
+    left b e = ap counted (opens D.direction xs i lt x p at) ∙ ap (λ (x : Bool). cond x (p ∷ counted (drop (i + 1) ps)) (counted (drop (i + 1) ps))) e
 
     pub passed : false ≡ is_base D.time w p → Added D w gs xs (i + 1) count sum
     passed e = let l = left false (sym e) in

@@ -1,5 +1,5 @@
 -- A window that is neither empty nor beyond the samples: its ends are times of the clock, and the record begins by its start.
-use Rattle.std.proofs.Common.{◌≡◌, ℕ, ◌-◌, ◌<◌, ◌≤◌, List, [], ◌∷◌, length, take, pos, ◌≤ℤ◌, sym, subst, inl, arith}
+use Rattle.std.proofs.Common.{◌≡◌, ℕ, ◌-◌, ◌<◌, ◌≤◌, List, [], ◌∷◌, length, Option, pos, ◌≤ℤ◌, sym, subst, inl, arith}
 use borrow.Author.Differences.{ints}
 use Rattle.std.proofs.lemmas.Int.{by_lt_z}
 use Rattle.recording.specs.declared.sample.Sample.{Sample}
@@ -9,12 +9,14 @@ use Rattle.response.specs.declared.group.Window.{Window}
 use Rattle.figure.specs.declared.span.Span.{Span}
 use Rattle.figure.specs.declared.point.Point.{Point}
 use Rattle.figure.specs.Points.{course}
+use Rattle.figure.specs.Steps.{used_points}
 use Rattle.figure.specs.Windows.{Empty, on_clock, Proper}
 use Rattle.figure.specs.Defects.{Beyond}
 use Rattle.figure.proofs.Standing.{stands, stands_proper}
-use Rattle.delivery.specs.Limits.{Usable, BeginsBy}
+use Rattle.delivery.specs.Limits.{BeginsBy}
 use Rattle.delivery.proofs.Reaching.{before_first, after_last}
-use Rattle.delivery.proofs.Sounds.{usable, usable_take, begins_first}
+use Rattle.delivery.proofs.Sounds.{usable}
+use Rattle.delivery.proofs.Using.{begins_used}
 
 some_sample : (xs : List Sample) (w : Span) → (Empty w → ⊥) → (Beyond xs w → ⊥) → 0 < length xs
 some_sample [] w full within = absurd (within (full, inl tt))
@@ -41,13 +43,11 @@ module _ (xs : List Sample) (sound : Sound xs) (w : Span) (full : Empty w → �
       let b = to_last in
       (omega (arith, ints), (omega (arith, ints), (omega (arith, ints), omega (arith, ints))))
 
-  -- what the value of the window asks of the first n samples
-  pub valued : (d : Direction) (n : ℕ) (v : Window) → v ≡ on_clock w → w.multiplier ≤ 2 → Usable (course d (take n xs)) × (Proper v × BeginsBy (λ p. p.time) v.start (course d (take n xs)))
-  valued d n v e times =
-      let first : (at xs 0).time ≤ (on_clock w).start = omega (arith, ints, from_first, (stands xs w full within).starts) in (
-        usable_take d n xs (usable d xs sound),
-        (
-          subst Proper (sym e) (stands_proper w (stands xs w full within) times),
-          subst (λ (u : Window). BeginsBy (λ (p : Point). p.time) u.start (course d (take n xs))) (sym e) (begins_first d n (on_clock w).start xs (first_begins d xs (on_clock w).start first)),
-        ),
+  -- what the value of the window asks of the points that are used
+  pub valued : (d : Direction) (recovery : Option ℕ) (v : Window) → v ≡ on_clock w → w.multiplier ≤ 2 → (used : List Point) → used ≡ used_points recovery (course d xs) → Proper v × BeginsBy (λ p. p.time) v.start used
+  valued d recovery v e times used u =
+      let first : (at xs 0).time ≤ (on_clock w).start = omega (arith, ints, from_first, (stands xs w full within).starts) in
+      let begins = begins_used recovery (on_clock w).start (course d xs) (usable d xs sound).rises (first_begins d xs (on_clock w).start first) in (
+        subst Proper (sym e) (stands_proper w (stands xs w full within) times),
+        subst (λ (ps : List Point). BeginsBy (λ (p : Point). p.time) v.start ps) (sym u) (subst (λ (k : Window). BeginsBy (λ (p : Point). p.time) k.start (used_points recovery (course d xs))) (sym e) begins),
       )

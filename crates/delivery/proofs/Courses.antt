@@ -1,7 +1,7 @@
 -- The points of a record place by place, and in order of their times.
 use Rattle.std.proofs.Common.{◌≡◌, ℕ, zero, suc, ◌+◌, ◌<◌, ◌≤◌, List, [], ◌∷◌, length, get_or, take, drop, sym, ap, ◌∙◌, subst, arith}
 use Rattle.std.specs.List.{AllByRecursion}
-use Rattle.std.proofs.lemmas.List.{length-map, drop_more}
+use Rattle.std.proofs.lemmas.List.{length-map, get_or-map, drop_more}
 use Rattle.std.proofs.ByRecursion.{All-get_or, All-weaker}
 use Rattle.recording.specs.declared.sample.Sample.{Sample}
 use Rattle.disturbance.specs.declared.direction.Direction.{Direction}
@@ -9,16 +9,19 @@ use Rattle.figure.specs.declared.point.Point.{Point}
 use Rattle.figure.specs.Points.{turned, course, origin, After, Rises}
 use Rattle.delivery.specs.Limits.{BeginsBy}
 
--- ---- the point p stands at place i
-module _ (d : Direction) (xs : List Sample) (i : ℕ) (lt : i < length xs) (p : Point) (e : p ≡ get_or (course d xs) i origin) where
+-- ---- the point p is the sample at place i, turned
+module _ (d : Direction) (xs : List Sample) (i : ℕ) (lt : i < length xs) (x : Sample) (p : Point) (e : p ≡ turned d (get_or xs i x)) where
   inside : i < length (course d xs)
   inside = omega (arith, length-map xs (turned d))
 
+  same : p ≡ get_or (course d xs) i origin
+  same = e ∙ sym (get_or-map (turned d) xs i x origin lt)
+
   pub opens : drop i (course d xs) ≡ p ∷ drop (i + 1) (course d xs)
-  opens = drop_more (course d xs) i origin inside ∙ ap (λ (x : Point). x ∷ drop (i + 1) (course d xs)) (sym e)
+  opens = drop_more (course d xs) i origin inside ∙ ap (λ (q : Point). q ∷ drop (i + 1) (course d xs)) (sym same)
 
   pub holds_at : (P : Point → Type 0) → AllByRecursion P (course d xs) → P p
-  holds_at P h = subst P (sym e) (All-get_or P (course d xs) i origin inside h)
+  holds_at P h = subst P (sym same) (All-get_or P (course d xs) i origin inside h)
 
 pub passed_all : (d : Direction) (xs : List Sample) (i : ℕ) → length xs ≤ i → length (course d xs) ≤ i
 passed_all d xs i le = omega (arith, length-map xs (turned d))

@@ -1,7 +1,13 @@
 -- Entries whose times strictly rise: what holds of the first time, or of the last, holds of all.
-use Rattle.std.proofs.Common.{◌≡◌, ℕ, zero, suc, ◌+◌, ◌-◌, ◌<◌, ◌≤◌, List, length, get_or, subst, arith}
+use Rattle.std.proofs.Common.{◌≡◌, ℕ, zero, suc, ◌+◌, ◌-◌, ◌<◌, ◌≤◌, List, length, get_or, Some, sym, subst, arith}
+use Rattle.std.specs.List.{slice_get}
+use Rattle.std.proofs.lemmas.Option.{slice_get_within, get_or_from_slice_get}
 use Rattle.std.specs.List.{AllByRecursion}
 use Rattle.std.proofs.ByRecursion.{All-from_get_or, All-get_or}
+
+-- an entry that is found at a place stands there
+pub found_at : {X : Type 0} (xs : List X) (i : ℕ) (x d : X) → Some x ≡ slice_get xs i → (i < length xs) × (get_or xs i d ≡ x)
+found_at xs i x d e = (slice_get_within xs i x (sym e), get_or_from_slice_get xs i x d (sym e))
 
 module _ {X : Type 0} (time : X → ℕ) (d : X) (xs : List X) (rising : (k : ℕ) → k + 1 < length xs → time (get_or xs k d) < time (get_or xs (k + 1) d)) where
   pub climbs : (i n : ℕ) → i + n < length xs → time (get_or xs i d) ≤ time (get_or xs (i + n) d)

@@ -1,54 +1,64 @@
--- What a filter keeps, by the places of the list.
-use Rattle.std.proofs.Common.{◌≡◌, ℕ, zero, suc, ◌<◌, Bool, true, false, cond, List, [], ◌∷◌, length, get_or, filter, sym, refl, ap, ◌∙◌, subst, arith}
-use Rattle.std.specs.List.{ContainsAt, AllByRecursion}
+-- What a filter keeps of a list that a function has gone over.
+use Rattle.std.proofs.Common.{◌≡◌, ℕ, zero, suc, ◌<◌, Bool, true, false, cond, ◌||◌, List, [], ◌∷◌, length, get_or, map, filter, Decides, MatchBool, sym, refl, subst, arith}
+use Rattle.std.specs.List.{ContainsAt, AllByRecursion, AllWithin, HoldsAt, list_any}
 use Rattle.std.proofs.ByRecursion.{All-from_get_or, All-get_or, all_kept_by, kept_by_passes}
+use Rattle.std.proofs.Math.Bool.{not}
+use Rattle.std.proofs.lemmas.Bool.{not-true, not_from_false}
+use Rattle.std.proofs.lemmas.List.{length-map, get_or-map}
 use Rattle.figure.specs.declared.point.Point.{Point}
 use Rattle.figure.specs.Defects.{Missed, OneMissed}
 use Rattle.timeline.specs.declared.target.Target.{Target}
 
-apart : {A : Type 0} → true ≡ false → A
-apart e = let z : ◌≡◌ {A = ℕ} 0 1 = cc in absurd (omega arith)
+-- ---- nothing is kept exactly where nothing passes
+module _ {A X : Type 0} (f : A → X) (p : X → Bool) where
+  none_kept : (xs : List A) → list_any (λ a. p (f a)) xs ≡ false → filter p (map f xs) ≡ []
+  none_kept [] e = refl
+  none_kept (a ∷ xs) e =
+      elim (p (f a)) as (λ b. (b || list_any (λ a. p (f a)) xs) ≡ false → cond b (f a ∷ filter p (map f xs)) (filter p (map f xs)) ≡ []) [ true ↦ λ h. cc | false ↦ λ h. none_kept xs h ] e
 
+  none_pass : (xs : List A) → filter p (map f xs) ≡ [] → list_any (λ a. p (f a)) xs ≡ false
+  none_pass [] e = refl
+  none_pass (a ∷ xs) e =
+      elim (p (f a)) as (λ b. cond b (f a ∷ filter p (map f xs)) (filter p (map f xs)) ≡ [] → (b || list_any (λ a. p (f a)) xs) ≡ false) [ true ↦ λ h. cc | false ↦ λ h. none_pass xs h ] e
+
+  pub keeps_none : (xs : List A) (r : Bool) → r ≡ list_any (λ a. p (f a)) xs → Decides (not r) (filter p (map f xs) ≡ [])
+  keeps_none xs r e = (λ no. none_kept xs (let h = not-true r no in cc), λ none. not_from_false r (let h = none_pass xs none in cc))
+
+-- ---- what passes is kept
 module _ {X : Type 0} (p : X → Bool) where
-  kept_step : (x : X) (xs : List X) (b : Bool) → cond b (x ∷ xs) xs ≡ [] → (b ≡ false) × (xs ≡ [])
-  kept_step x xs true e = let z : ◌≡◌ {A = ℕ} 0 1 = cc in absurd (omega arith)
-  kept_step x xs false e = (refl, e)
-
-  none_pass : (xs : List X) → filter p xs ≡ [] → AllByRecursion (λ x. p x ≡ false) xs
-  none_pass [] e = tt
-  none_pass (x ∷ xs) e = let h = kept_step x (filter p xs) (p x) e in (h.0, none_pass xs h.1)
-
-  none_kept : (xs : List X) → AllByRecursion (λ x. p x ≡ false) xs → filter p xs ≡ []
-  none_kept [] h = refl
-  none_kept (x ∷ xs) h = ap (λ (b : Bool). cond b (x ∷ filter p xs) (filter p xs)) h.0 ∙ none_kept xs h.1
-
-  -- nothing is kept where nothing passes, and not where something does
-  pub keeps_none : (xs : List X) (d : X) → ((k : ℕ) → k < length xs → p (get_or xs k d) ≡ false) → filter p xs ≡ []
-  keeps_none xs d h = none_kept xs (All-from_get_or (λ x. p x ≡ false) xs d h)
-
-  pub keeps_one : (xs : List X) (k : ℕ) (d : X) → k < length xs → p (get_or xs k d) ≡ true → filter p xs ≡ [] → ⊥
-  keeps_one xs k d lt e none = apart (sym e ∙ All-get_or (λ x. p x ≡ false) xs k d lt (none_pass xs none))
-
   has_more : (x y : X) (xs : List X) (b : Bool) → ContainsAt xs y → ContainsAt (cond b (x ∷ xs) xs) y
   has_more x y xs true h = (suc h.0, omega (arith, h.1), λ d. h.2 d)
   has_more x y xs false h = h
 
   has_here : (x : X) (xs : List X) (b : Bool) → b ≡ true → ContainsAt (cond b (x ∷ xs) xs) x
   has_here x xs true e = (zero, omega arith, λ d. refl)
-  has_here x xs false e = apart (sym e)
+  has_here x xs false e = cc
 
-  -- what passes is kept
-  pub keeps : (xs : List X) (k : ℕ) (d : X) → k < length xs → p (get_or xs k d) ≡ true → ContainsAt (filter p xs) (get_or xs k d)
+  keeps : (xs : List X) (k : ℕ) (d : X) → k < length xs → p (get_or xs k d) ≡ true → ContainsAt (filter p xs) (get_or xs k d)
   keeps [] k d lt e = absurd (omega arith)
   keeps (x ∷ xs) zero d lt e = has_here x (filter p xs) (p x) e
   keeps (x ∷ xs) (suc k) d lt e = has_more x (get_or xs k d) (filter p xs) (p x) (keeps xs k d (omega arith) e)
 
-module _ (gs : List Target) (p : Point → Bool) (points : List Point) (d : Point) where
-  pub one_missed : (k : ℕ) → k < length points → p (get_or points k d) ≡ true → Missed gs (get_or points k d).time → OneMissed gs (filter p points)
-  one_missed k lt e h = let has = keeps p points k d lt e in
-      (has.0, has.1, λ q. subst (λ (x : Point). Missed gs x.time) (sym (has.2 q)) h)
+module _ (gs : List Target) (p : Point → Bool) where
+  abbrev pub Misses : Point → Type 0
+  Misses x = (p x ≡ true) × ((0 < length gs) × Missed gs x.time)
 
-  pub none_missed : ((k : ℕ) → k < length points → ((p (get_or points k d) ≡ true) × Missed gs (get_or points k d).time) → ⊥) → OneMissed gs (filter p points) → ⊥
-  none_missed h one =
-      let no : AllByRecursion (λ x. ((p x ≡ true) × Missed gs x.time) → ⊥) (filter p points) = all_kept_by p _ points (All-from_get_or _ points d h) in
-      All-get_or (λ (x : Point). ((p x ≡ true) × Missed gs x.time) → ⊥) (filter p points) one.0 d one.1 no (All-get_or (λ (x : Point). p x ≡ true) (filter p points) one.0 d one.1 (kept_by_passes p points), one.2 d)
+  one_missed : (points : List Point) (d : Point) (k : ℕ) → k < length points → Misses (get_or points k d) → (0 < length gs) × OneMissed gs (filter p points)
+  one_missed points d k lt h = let has = keeps p points k d lt h.0 in
+      (h.1.0, (has.0, has.1, λ q. subst (λ (x : Point). Missed gs x.time) (sym (has.2 q)) h.1.1))
+
+  none_missed : (points : List Point) (d : Point) → ((k : ℕ) → k < length points → Misses (get_or points k d) → ⊥) → (0 < length gs) × OneMissed gs (filter p points) → ⊥
+  none_missed points d h (some, one) =
+      let no : AllByRecursion (λ x. Misses x → ⊥) (filter p points) = all_kept_by p _ points (All-from_get_or _ points d h) in
+      All-get_or (λ (x : Point). Misses x → ⊥) (filter p points) one.0 d one.1 no (All-get_or (λ (x : Point). p x ≡ true) (filter p points) one.0 d one.1 (kept_by_passes p points), (some, one.2 d))
+
+  -- what a search of the list answers, before f has gone over it
+  pub misses_decided : {A : Type 0} (f : A → Point) (a : A) (q : Point) (xs : List A) (r : Bool) → MatchBool r ((k : ℕ) × (k < length xs) × HoldsAt (λ x. Misses (f x)) xs k) (AllWithin (λ x. Misses (f x) → ⊥) xs 0 (length xs)) → Decides r ((0 < length gs) × OneMissed gs (filter p (map f xs)))
+  misses_decided f a q xs true h = (
+    λ _. one_missed (map f xs) q h.0 (omega (arith, h.1, length-map xs f)) (subst Misses (sym (get_or-map f xs h.0 a q h.1)) (h.2 a)),
+    λ _. refl,
+  )
+  misses_decided f a q xs false h = (
+    λ e. cc,
+    λ one. absurd (none_missed (map f xs) q (λ k lt. let there : k < length xs = omega (arith, length-map xs f) in subst (λ (x : Point). Misses x → ⊥) (sym (get_or-map f xs k a q there)) (h k a (omega arith) there)) one),
+  )

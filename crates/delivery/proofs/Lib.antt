@@ -17,3 +17,4 @@ pub mod Reaching
 pub mod Answering
 pub mod Clocked
 pub mod Grounds
+pub mod Neighbours

@@ -8,7 +8,7 @@ use Rattle.figure.specs.Windows.{Empty}
 use Rattle.figure.specs.Defects.{Beyond}
 use Rattle.delivery.proofs.Ends.{all_up, all_down, at_first, at_last}
 
-abbrev nothing : Sample
+abbrev pub nothing : Sample
 nothing = record { time = 0; frequency = 0; power = pos 0 }
 
 module _ (xs : List Sample) (sound : Sound xs) (w : Span) where

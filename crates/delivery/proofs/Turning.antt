@@ -11,7 +11,7 @@ use Rattle.exact.proofs.Limits.{within_more}
 use Rattle.recording.specs.declared.sample.Sample.{Sample}
 use Rattle.disturbance.specs.declared.direction.Direction.{Direction}
 use Rattle.figure.specs.declared.point.Point.{Point}
-use Rattle.figure.specs.Points.{course, origin}
+use Rattle.figure.specs.Points.{turned, course}
 use Rattle.figure.specs.Steps.{Weights, to_half_up, compensated}
 use Rattle.response.specs.declared.group.Window.{Window}
 use Rattle.delivery.specs.declared.basis.Basis.{Basis}
@@ -47,8 +47,8 @@ start {weight} {basis} {d} {xs} {w} lt small u h = record {
 
 module _ {weight : Weights} {basis : Basis} {d : Direction} {xs : List Sample} {w : Window} {i t1 : ℕ} {v1 sum : ℤ} (pace : Pace weight basis d xs w i t1 v1 sum) where
   -- the next point is p, and r is what `compensated` answers
-  pub here : {p : Point} {r : ℤ} → i < length xs → p ≡ get_or (course d xs) i origin → whole r ≡ compensated to_half_up weight basis.disturbance (whole basis.base) p → Within (2 ^ 42) r → Here (compensated_z weight basis.disturbance basis.base) (course d xs) w.start w.end i t1 v1 sum p (to_z w128 (of_z w128 r))
-  here {p} lt e f small = let h = held (omega arith) (whole_in f) small in record { forward = pace.forward; walked = pace.walked; next = opens d xs i lt p e; value = h.is; within = h.within }
+  pub here : {p : Point} {r : ℤ} → i < length xs → (x : Sample) → p ≡ turned d (get_or xs i x) → whole r ≡ compensated to_half_up weight basis.disturbance (whole basis.base) p → Within (2 ^ 42) r → Here (compensated_z weight basis.disturbance basis.base) (course d xs) w.start w.end i t1 v1 sum p (to_z w128 (of_z w128 r))
+  here {p} lt x e f small = let h = held (omega arith) (whole_in f) small in record { forward = pace.forward; walked = pace.walked; next = opens d xs i lt x p e; value = h.is; within = h.within }
 
   pub on : {i' t1' : ℕ} {v1' sum' : ℤ} → Walk (compensated_z weight basis.disturbance basis.base) (course d xs) w.start w.end i' t1' v1' sum' → Pace weight basis d xs w i' t1' v1' sum'
   on k = record { forward = pace.forward; small = pace.small; walked = k }

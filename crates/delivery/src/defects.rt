@@ -1,21 +1,18 @@
 // What bars a delivery, in the checking order.
-ghost use Rattle.std.specs.Prelude.{◌≡◌, ◌⊎◌, Decides};
+ghost use Rattle.std.specs.Prelude.{◌≡◌, ◌⊎◌, take, IfOk, Decides};
+ghost use Rattle.std.specs.Result.{result_err};
 ghost use Rattle.timeline.specs.Checks.{FirstFault};
 ghost use Rattle.figure.specs.Defects.{BadAmount, WrongSide, Beyond, early_defects, span_defects};
 
 use crate::gaps::is_gapped;
-use crate::missing::{is_missed, lacks_base};
-use crate::spans::{is_beyond, is_empty};
+use crate::ground::Ground;
+use crate::spans::{Spans, is_beyond, is_empty};
+use crate::targets::{Targets, counted};
 use crate::terms::Terms;
 use disturbance::direction::Direction;
-use disturbance::disturbance::Disturbance;
 use disturbance::trace::Trace;
-use figure::span::Span;
 use recording::refusal::Reason;
-use recording::sample::Sample;
-use response::base::BaseWindow;
 use response::service::Side;
-use timeline::order::is_sound;
 use timeline::target::Target;
 
 // The greatest amount that can be enabled, in W.
@@ -25,68 +22,62 @@ const GREATEST_AMOUNT: i64 = 1_000_000_000;
 fn is_bad_amount(enabled: i64) -> bool
     ensures { Decides result (BadAmount enabled) }
 {
-    enabled < 0 || enabled > GREATEST_AMOUNT
+    !(0..=GREATEST_AMOUNT).contains(&enabled)
 }
 
 // Whether services of a side belong to the other direction.
 fn is_wrong_side(side: Side, direction: Direction) -> bool
     ensures { Decides result (WrongSide side direction) }
 {
-    match (side.direction(), direction) {
-        (Direction::Low, Direction::Low) | (Direction::High, Direction::High) => false,
-        _ => true,
-    }
+    side.direction() != direction
 }
 
-// The first defect that asks nothing of recovery and windows.
-pub(crate) fn early_defect(
-    samples: &[Sample],
-    disturbance: Disturbance,
-    window: BaseWindow,
-    targets: &[Target],
+// The first defect that asks nothing of recovery and windows; without one, the counted targets.
+pub(crate) fn early_defect<'a>(
+    ground: Ground,
+    table: &'a [Target],
     count: usize,
     terms: Terms,
-) -> Option<Reason>
-    ensures { FirstFault (early_defects samples.now disturbance window targets.now count terms.side terms.enabled) result }
+) -> Result<Targets<'a>, Reason>
+    ensures defect { FirstFault (early_defects ground.entry.trace.samples.now ground.entry.disturbance ground.entry.window table.now count terms.side terms.enabled) (result_err result) }
+    ensures counted { IfOk result (λ targets. targets.all.now ≡ take count table.now) }
 {
     if is_bad_amount(terms.enabled) {
-        return Some(Reason::AmountOutside);
+        return Err(Reason::AmountOutside);
     }
-    if is_wrong_side(terms.side, disturbance.direction) {
-        return Some(Reason::OtherDirection);
+    if is_wrong_side(terms.side, ground.disturbance.direction) {
+        return Err(Reason::OtherDirection);
     }
-    if !is_sound(targets, count) {
-        return Some(Reason::OtherTargets);
+    let targets = counted(table, count)?;
+    if ground.lacks_base() {
+        return Err(Reason::NoBaseSample);
     }
-    if lacks_base(samples, disturbance, window) {
-        return Some(Reason::NoBaseSample);
+    if ground.is_missed(targets) {
+        return Err(Reason::OutsideTargets);
     }
-    if is_missed(&targets[0..count], samples, disturbance, window) {
-        return Some(Reason::OutsideTargets);
-    }
-    None
+    Ok(targets)
 }
 
 // Whether one of two windows that are not empty begins before the first sample or ends after the
 // last.
-fn is_one_beyond(trace: Trace, first: Span, second: Span) -> bool
-    ensures { Decides result (Beyond trace.entry.samples.now first ⊎ Beyond trace.entry.samples.now second) }
+fn is_one_beyond(trace: Trace, spans: Spans) -> bool
+    ensures { Decides result (Beyond trace.entry.samples.now spans.first ⊎ Beyond trace.entry.samples.now spans.second) }
 {
-    is_beyond(trace, first) || is_beyond(trace, second)
+    is_beyond(trace, spans.first) || is_beyond(trace, spans.second)
 }
 
 // The first defect of two windows.
-pub(crate) fn span_defect(trace: Trace, widest: u32, first: Span, second: Span) -> Option<Reason>
-    ensures { FirstFault (span_defects trace.entry.samples.now widest first second) result }
+pub(crate) fn span_defect(trace: Trace, widest: u32, spans: Spans) -> Result<(), Reason>
+    ensures { FirstFault (span_defects trace.entry.samples.now widest spans.first spans.second) (result_err result) }
 {
-    if is_empty(first) {
-        return Some(Reason::EmptyFirstWindow);
+    if is_empty(spans.first) {
+        return Err(Reason::EmptyFirstWindow);
     }
-    if is_one_beyond(trace, first, second) {
-        return Some(Reason::WindowOutside);
+    if is_one_beyond(trace, spans) {
+        return Err(Reason::WindowOutside);
     }
-    if is_gapped(trace.samples, widest, first, second) {
-        return Some(Reason::WideGap);
+    if is_gapped(trace.samples, widest, spans) {
+        return Err(Reason::WideGap);
     }
-    None
+    Ok(())
 }

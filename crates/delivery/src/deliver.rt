@@ -1,7 +1,6 @@
 // A delivery, from a record with its disturbance to the report or the refusal.
 ghost use Rattle.std.specs.Prelude.{◌≡◌, IfOk, Result as Answer};
 ghost use Rattle.recording.specs.declared.refusal.Refusal.{Refusal as Refused};
-ghost use Rattle.recording.specs.Refusals.{refusal};
 ghost use Rattle.response.specs.Groups.{Sound as SoundRow};
 ghost use Rattle.figure.specs.declared.report.Report.{Report as Reported};
 ghost use Rattle.figure.specs.Asked.{TriggerTime, asked_by, asked_for};
@@ -10,9 +9,10 @@ ghost use Rattle.figure.specs.Reports.{Delivers};
 
 use crate::base::basis;
 use crate::defects::{early_defect, span_defect};
+use crate::ground::Ground;
 use crate::judging::judged;
 use crate::shift::shift;
-use crate::spans::placed;
+use crate::spans::{Spans, placed};
 use crate::terms::Terms;
 use crate::values::window_values;
 use disturbance::disturbance::Disturbance;
@@ -35,21 +35,7 @@ fn reached(
 ) -> Option<u32>
     ensures { TriggerTime trace.entry.samples.now disturbance recovery trigger result }
 {
-    match trigger {
-        Some(at) => trigger_time(trace, disturbance, recovery, at.dip),
-        None => None,
-    }
-}
-
-// A refusal for this reason, which has no place of its own.
-fn refused(reason: Reason) -> Refusal
-    ensures { result ≡ refusal reason 0 0 }
-{
-    Refusal {
-        reason,
-        place: 0,
-        position: 0,
-    }
+    trigger_time(trace, disturbance, recovery, trigger?.dip)
 }
 
 // The delivery over any row of windows.
@@ -68,28 +54,24 @@ fn deliver_over<R: ResponseRule>(
     let restored = recovery(trace, disturbance);
     let trigger = rule.trigger();
     let triggered = reached(trace, disturbance, restored, trigger);
-    let window = settings.base();
-    let samples = trace.samples;
-    if let Some(reason) = early_defect(samples, disturbance, window, targets, count, terms) {
-        return Err(refused(reason));
-    }
-    let time = disturbance.time;
-    let Some(by) = shift(settings.response.rate, time, trigger, triggered) else {
-        return Err(refused(Reason::NoTriggerTime));
+    let ground = Ground {
+        trace,
+        disturbance,
+        window: settings.base(),
     };
+    let counted = early_defect(ground, targets, count, terms)?;
+    let time = disturbance.time;
+    let by = shift(settings.response.rate, time, trigger, triggered).ok_or(Reason::NoTriggerTime)?;
     let first = placed(time, by, restored, terms.row.first);
     let second = placed(time, by, restored, terms.row.second);
-    if let Some(reason) = span_defect(trace, terms.row.widest_gap, first, second) {
-        return Err(refused(reason));
-    }
-    let counted = &targets[0..count];
-    let from = basis(samples, disturbance, window, counted);
+    let spans = Spans { first, second };
+    span_defect(trace, terms.row.widest_gap, spans)?;
+    let from = basis(ground, counted);
     let found = window_values(
         trace,
         disturbance.direction,
         restored,
-        first,
-        second,
+        spans,
         from,
         rule,
     );

@@ -2,6 +2,7 @@
 ghost use Rattle.std.specs.Prelude.{◌-◌, ◌<◌, ◌⊎◌, Decides};
 ghost use Rattle.figure.specs.Defects.{Shares, Gapped};
 
+use crate::spans::Spans;
 use figure::span::Span;
 use recording::sample::Sample;
 
@@ -20,21 +21,18 @@ fn is_wide(a: Sample, b: Sample, widest: u32) -> bool
 }
 
 // Whether they are, and share more than an instant with one of two windows.
-fn is_gap(a: Sample, b: Sample, widest: u32, first: Span, second: Span) -> bool
-    ensures { Decides result ((widest < b.time - a.time) × (Shares a b first ⊎ Shares a b second)) }
+fn is_gap(a: Sample, b: Sample, widest: u32, spans: Spans) -> bool
+    ensures { Decides result ((widest < b.time - a.time) × (Shares a b spans.first ⊎ Shares a b spans.second)) }
 {
-    is_wide(a, b, widest) && (shares(a, b, first) || shares(a, b, second))
+    is_wide(a, b, widest) && (shares(a, b, spans.first) || shares(a, b, spans.second))
 }
 
 // Whether neighbouring samples in one of two windows are further apart than the widest gap. One
 // pass over the samples.
-pub(crate) fn is_gapped(samples: &[Sample], widest: u32, first: Span, second: Span) -> bool
-    ensures { Decides result (Gapped samples.now widest first ⊎ Gapped samples.now widest second) }
+pub(crate) fn is_gapped(samples: &[Sample], widest: u32, spans: Spans) -> bool
+    ensures { Decides result (Gapped samples.now widest spans.first ⊎ Gapped samples.now widest spans.second) }
 {
-    for place in 1..samples.len() {
-        if is_gap(samples[place - 1], samples[place], widest, first, second) {
-            return true;
-        }
-    }
-    false
+    samples
+        .windows(2)
+        .any(|pair| is_gap(pair[0], pair[1], widest, spans))
 }

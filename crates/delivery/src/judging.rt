@@ -8,17 +8,16 @@ ghost use Rattle.delivery.specs.Filling.{Filled};
 use crate::terms::Terms;
 use crate::values::Values;
 use figure::report::{Report, Verdict};
+use std::cmp::Ordering;
 
 // How a delivery stands to the enabled amount.
 fn verdict(watts: i64, enabled: i64) -> Verdict
     ensures { Judged watts enabled result }
 {
-    if watts > enabled {
-        Verdict::Met
-    } else if watts == enabled {
-        Verdict::Level
-    } else {
-        Verdict::Short
+    match watts.cmp(&enabled) {
+        Ordering::Greater => Verdict::Met,
+        Ordering::Equal => Verdict::Level,
+        Ordering::Less => Verdict::Short,
     }
 }
 
@@ -26,10 +25,8 @@ fn verdict(watts: i64, enabled: i64) -> Verdict
 fn lesser(values: Values) -> i64
     ensures { whole result ≡ lesser_of (whole values.first) (or_none whole values.second) }
 {
-    match values.second {
-        None => values.first,
-        Some(second) => values.first.min(second),
-    }
+    let first = values.first;
+    values.second.map_or(first, |second| first.min(second))
 }
 
 // The report of two values.

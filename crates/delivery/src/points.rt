@@ -1,18 +1,17 @@
-// The record as its disturbance turns it, taken by place.
-ghost use Rattle.std.specs.Prelude.{◌≡◌, ◌<◌, ◌≤◌, length, take, Some, slice_index_or};
-ghost use Rattle.figure.specs.Points.{course, origin, Rises};
+// The record as its disturbance turns it.
+ghost use Rattle.std.specs.Prelude.{◌≡◌, Some};
+ghost use Rattle.figure.specs.Points.{turned, course};
 ghost use Rattle.figure.specs.Steps.{used_points};
 
 use disturbance::direction::{Direction, dip, push};
+use disturbance::trace::Trace;
 use figure::point::Point;
 use recording::sample::Sample;
 
-// The point at a place.
-pub(crate) fn point_at(samples: &[Sample], direction: Direction, place: usize) -> Point
-    requires { place < length samples.now }
-    ensures { result ≡ slice_index_or (course direction samples.now) place origin }
+// A sample, turned.
+pub(crate) fn turned(direction: Direction, sample: Sample) -> Point
+    ensures { result ≡ turned direction sample }
 {
-    let sample = samples[place];
     Point {
         time: sample.time,
         dip: dip(direction, sample.frequency),
@@ -20,28 +19,24 @@ pub(crate) fn point_at(samples: &[Sample], direction: Direction, place: usize) -
     }
 }
 
-// How many samples stand before a time.
-fn count_before(samples: &[Sample], direction: Direction, time: u32) -> usize
-    requires { Rises (course direction samples.now) }
-    ensures within { result ≤ length samples.now }
-    ensures is { course direction (take result samples.now) ≡ used_points (Some time) (course direction samples.now) }
+// The samples before a time.
+fn before(trace: Trace<'_>, time: u32) -> Trace<'_>
+    ensures { (d : _) → course d result.samples.now ≡ used_points (Some time) (course d trace.entry.samples.now) }
 {
-    for (i, s) in samples.iter().enumerate() {
-        if time <= s.time {
-            return i;
-        }
+    let count = trace
+        .samples
+        .partition_point(|sample| sample.time < time);
+    Trace {
+        samples: &trace.samples[0..count],
     }
-    samples.len()
 }
 
-// How many samples are used: those before any recovery.
-pub(crate) fn count_used(samples: &[Sample], direction: Direction, recovery: Option<u32>) -> usize
-    requires { Rises (course direction samples.now) }
-    ensures within { result ≤ length samples.now }
-    ensures is { course direction (take result samples.now) ≡ used_points recovery (course direction samples.now) }
+// The samples that are used: those before any recovery.
+pub(crate) fn used(trace: Trace<'_>, recovery: Option<u32>) -> Trace<'_>
+    ensures { (d : _) → course d result.samples.now ≡ used_points recovery (course d trace.entry.samples.now) }
 {
     match recovery {
-        Some(time) => count_before(samples, direction, time),
-        None => samples.len(),
+        Some(time) => before(trace, time),
+        None => trace,
     }
 }

@@ -28,8 +28,6 @@ pub(crate) fn shift(
     let Some(dip) = trigger else {
         return Some(0);
     };
-    let Some(reached) = trigger_time else {
-        return None;
-    };
+    let reached = trigger_time?;
     Some(reached as i64 - disturbance as i64 - ramp_time(rate, dip) as i64)
 }

@@ -8,14 +8,18 @@ use disturbance::trace::Trace;
 use figure::span::Span;
 use response::group::Window;
 
+// The two windows of a service.
+#[derive(Clone, Copy)]
+pub(crate) struct Spans {
+    pub(crate) first: Span,
+    pub(crate) second: Span,
+}
+
 // The earlier of a time and any recovery.
 fn cut(recovery: Option<u32>, time: i64) -> i64
     ensures { result ≡ cut_at recovery time }
 {
-    match recovery {
-        None => time,
-        Some(end) => time.min(end as i64),
-    }
+    recovery.map_or(time, |end| time.min(end as i64))
 }
 
 // A window after the shift, cut at recovery.
@@ -57,10 +61,8 @@ pub(crate) fn is_beyond(trace: Trace, span: Span) -> bool
     if is_empty(span) {
         return false;
     }
-    let samples = trace.samples;
-    let count = samples.len();
-    if count == 0 {
+    let (Some(first), Some(last)) = (trace.samples.first(), trace.samples.last()) else {
         return true;
-    }
-    span.start < samples[0].time as i64 || (samples[count - 1].time as i64) < span.end
+    };
+    span.start < first.time as i64 || (last.time as i64) < span.end
 }

@@ -7,12 +7,11 @@ ghost use Rattle.figure.specs.Windows.{Empty, on_clock, unless_empty};
 ghost use Rattle.figure.specs.Defects.{Beyond};
 
 use crate::basis::Basis;
-use crate::points::count_used;
-use crate::spans::{is_empty, on_clock};
+use crate::points::used;
+use crate::spans::{Spans, is_empty, on_clock};
 use crate::windows::window_value;
 use disturbance::direction::Direction;
 use disturbance::trace::Trace;
-use figure::span::Span;
 use response::rule::ResponseRule;
 
 // In watts. There is no second value where the second window is empty.
@@ -27,26 +26,24 @@ pub(crate) fn window_values<R: ResponseRule>(
     trace: Trace,
     direction: Direction,
     recovery: Option<u32>,
-    first: Span,
-    second: Span,
+    spans: Spans,
     basis: Basis,
     rule: &R,
 ) -> Values
-    requires times { (first.multiplier ≤ 2) × (second.multiplier ≤ 2) }
-    requires stand { ((Empty first → ⊥)) × (((Beyond trace.samples.now first → ⊥)) × ((Beyond trace.samples.now second → ⊥))) }
-    ensures first { whole result.first ≡ value_of to_half_up (compensated_of to_half_up (R.ResponseRule.weighs rule.now) basis.disturbance (whole basis.base)) (used_points recovery (course direction trace.entry.samples.now)) (on_clock first) }
-    ensures second { or_none whole result.second ≡ or_none (value_of to_half_up (compensated_of to_half_up (R.ResponseRule.weighs rule.now) basis.disturbance (whole basis.base)) (used_points recovery (course direction trace.entry.samples.now))) (unless_empty second) }
+    requires times { (spans.first.multiplier ≤ 2) × (spans.second.multiplier ≤ 2) }
+    requires stand { ((Empty spans.first → ⊥)) × (((Beyond trace.samples.now spans.first → ⊥)) × ((Beyond trace.samples.now spans.second → ⊥))) }
+    ensures first { whole result.first ≡ value_of to_half_up (compensated_of to_half_up (R.ResponseRule.weighs rule.now) basis.disturbance (whole basis.base)) (used_points recovery (course direction trace.entry.samples.now)) (on_clock spans.first) }
+    ensures second { or_none whole result.second ≡ or_none (value_of to_half_up (compensated_of to_half_up (R.ResponseRule.weighs rule.now) basis.disturbance (whole basis.base)) (used_points recovery (course direction trace.entry.samples.now))) (unless_empty spans.second) }
 {
-    let used = count_used(trace.samples, direction, recovery);
-    let samples = &trace.samples[0..used];
-    let value = window_value(samples, direction, on_clock(first), basis, rule);
-    if is_empty(second) {
+    let before = used(trace, recovery);
+    let value = window_value(before, direction, on_clock(spans.first), basis, rule);
+    if is_empty(spans.second) {
         return Values {
             first: value,
             second: None,
         };
     }
-    let other = window_value(samples, direction, on_clock(second), basis, rule);
+    let other = window_value(before, direction, on_clock(spans.second), basis, rule);
     Values {
         first: value,
         second: Some(other),

@@ -5,36 +5,36 @@ ghost use Rattle.exact.specs.Limits.{Within};
 ghost use Rattle.figure.specs.Points.{course};
 ghost use Rattle.figure.specs.Steps.{compensated as compensated_of, value_of, to_half_up};
 ghost use Rattle.delivery.specs.Areas.{area_of, compensated_z};
-ghost use Rattle.delivery.specs.Limits.{Usable, BeginsBy};
+ghost use Rattle.delivery.specs.Limits.{BeginsBy};
 ghost use Rattle.figure.specs.Windows.{Proper};
 
 use crate::basis::Basis;
 use crate::compensation::compensated;
-use crate::points::point_at;
+use crate::points::turned;
 use crate::rounding::{half_up, straight_half_up, strip};
 use disturbance::direction::Direction;
-use recording::sample::Sample;
+use disturbance::trace::Trace;
 use response::group::Window;
 use response::rule::ResponseRule;
 
 // Twice the area under the compensated response in a window. One pass over the samples, which asks
 // the rule once for each.
 fn area<R: ResponseRule>(
-    samples: &[Sample],
+    trace: Trace,
     direction: Direction,
     window: Window,
     basis: Basis,
     rule: &R,
 ) -> i128
-    requires { (Usable (course direction samples.now)) × ((Proper window) × (BeginsBy (λ p. p.time) window.start (course direction samples.now))) }
-    ensures is { result ≡ area_of (compensated_z (R.ResponseRule.weighs rule.now) basis.disturbance basis.base) (course direction samples.now) window.start window.end }
+    requires { (Proper window) × (BeginsBy (λ p. p.time) window.start (course direction trace.samples.now)) }
+    ensures is { result ≡ area_of (compensated_z (R.ResponseRule.weighs rule.now) basis.disturbance basis.base) (course direction trace.entry.samples.now) window.start window.end }
     ensures within { Within (2 ^ 43 * (window.end - window.start)) result }
 {
     let mut t1: u32 = 0;
     let mut v1: i128 = 0;
     let mut sum: i128 = 0;
-    for place in 0..samples.len() {
-        let point = point_at(samples, direction, place);
+    for sample in trace.samples {
+        let point = turned(direction, *sample);
         let v = compensated(point, basis, rule);
         if point.time <= window.start {
             t1 = point.time;
@@ -56,16 +56,16 @@ fn area<R: ResponseRule>(
 
 // A window's value in watts: multiplier times the trapezoid average, half-up.
 pub(crate) fn window_value<R: ResponseRule>(
-    samples: &[Sample],
+    trace: Trace,
     direction: Direction,
     window: Window,
     basis: Basis,
     rule: &R,
 ) -> i64
-    requires { (Usable (course direction samples.now)) × ((Proper window) × (BeginsBy (λ p. p.time) window.start (course direction samples.now))) }
-    ensures { whole result ≡ value_of to_half_up (compensated_of to_half_up (R.ResponseRule.weighs rule.now) basis.disturbance (whole basis.base)) (course direction samples.now) window }
+    requires { (Proper window) × (BeginsBy (λ p. p.time) window.start (course direction trace.samples.now)) }
+    ensures { whole result ≡ value_of to_half_up (compensated_of to_half_up (R.ResponseRule.weighs rule.now) basis.disturbance (whole basis.base)) (course direction trace.entry.samples.now) window }
 {
-    let sum = area(samples, direction, window, basis, rule);
+    let sum = area(trace, direction, window, basis, rule);
     let length = window.end - window.start;
     half_up(sum * window.multiplier as i128, 200 * length as u64) as i64
 }

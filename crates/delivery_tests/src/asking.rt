@@ -69,28 +69,18 @@ pub(crate) fn target(time: u32, power: i32) -> Target {
     Target { time, power }
 }
 
-// The settings of a case, which have to be within their limits.
-fn set(case: Case) -> Result<Settings, Fail> {
-    match Settings::new(case.settings) {
-        Ok(settings) => Ok(settings),
-        Err(_) => Err(Fail::new("settings within their limits were expected")),
-    }
-}
-
 // The answer under a rule.
 pub(crate) fn ruled<R: ResponseRule>(
     case: Case,
     rule: &R,
 ) -> Result<Result<Report, Refusal>, Fail> {
-    let settings = set(case)?;
+    let settings = Settings::new(case.settings)?;
     let samples = case.samples;
     if !is_sound(samples) {
         return Err(Fail::new("sound samples were expected"));
     }
     let trace = Trace { samples };
-    let Some(disturbance) = find_disturbance(trace) else {
-        return Err(Fail::new("a disturbance was expected"));
-    };
+    let disturbance = find_disturbance(trace).ok_or("a disturbance was expected")?;
     Ok(deliver(
         trace,
         disturbance,
@@ -104,14 +94,14 @@ pub(crate) fn ruled<R: ResponseRule>(
 
 // The answer under the variable rule, with the rate of the settings.
 pub(crate) fn variable(case: Case) -> Result<Result<Report, Refusal>, Fail> {
-    let response = set(case)?.response;
+    let response = Settings::new(case.settings)?.response;
     let rate = response.rate;
     ruled(case, &Variable { response, rate })
 }
 
 // The answer under the switching rule.
 pub(crate) fn switching(case: Case) -> Result<Result<Report, Refusal>, Fail> {
-    let response = set(case)?.response;
+    let response = Settings::new(case.settings)?.response;
     ruled(case, &Switching { response })
 }
 
@@ -160,46 +150,14 @@ pub(crate) fn both(
     }
 }
 
-fn verdict_number(verdict: Verdict) -> u8 {
-    match verdict {
-        Verdict::Met => 1,
-        Verdict::Level => 2,
-        Verdict::Short => 3,
-    }
-}
-
-// Every field of a report is as expected.
-fn is_report(rt: &impl Abort, report: Report, expected: Report) -> Result<(), Fail> {
-    assert_eq!(rt;
-        report.disturbance,
-        expected.disturbance,
-        "the disturbance time"
-    );
-    assert_eq!(rt; report.recovery, expected.recovery, "the recovery");
-    assert_eq!(rt; report.first, expected.first, "the first value");
-    assert_eq!(rt; report.second, expected.second, "the second value");
-    assert_eq!(rt; report.delivery, expected.delivery, "the delivery");
-    assert_eq!(rt;
-        verdict_number(report.verdict),
-        verdict_number(expected.verdict),
-        "the verdict"
-    );
-    Ok(())
-}
-
 // The answer is this report.
 pub(crate) fn delivers(
     rt: &impl Abort,
     answer: Result<Result<Report, Refusal>, Fail>,
     expected: Report,
 ) -> Result<(), Fail> {
-    match answer? {
-        Ok(report) => is_report(rt, report, expected),
-        Err(refusal) => {
-            assert_eq!(rt; refusal.number(), 0, "a report was expected");
-            Ok(())
-        },
-    }
+    assert_eq!(rt; answer?, Ok(expected));
+    Ok(())
 }
 
 // The answer is the refusal with this number, which names no place, no byte and no field.
@@ -208,12 +166,8 @@ pub(crate) fn refuses(
     answer: Result<Result<Report, Refusal>, Fail>,
     number: u8,
 ) -> Result<(), Fail> {
-    match answer? {
-        Ok(_) => Err(Fail::new("a refusal was expected")),
-        Err(refusal) => {
-            assert_eq!(rt; refusal.number(), number);
-            assert!(rt; refusal.place == 0 && refusal.position == 0 && refusal.field() == 0);
-            Ok(())
-        }
-    }
+    let refusal = answer?.err().ok_or("a refusal was expected")?;
+    assert_eq!(rt; refusal.number(), number);
+    assert_eq!(rt; (refusal.place, refusal.position, refusal.field()), (0, 0, 0));
+    Ok(())
 }

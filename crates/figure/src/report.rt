@@ -2,7 +2,7 @@
 use response::service::Service;
 
 // How a delivery stands to the enabled amount: above it, equal to it, or below it.
-#[derive(Clone, Copy)]
+#[derive(Clone, Copy, Debug, PartialEq, Eq)]
 pub enum Verdict {
     Met,
     Level,
@@ -10,7 +10,7 @@ pub enum Verdict {
 }
 
 // Times in ms, values in W. There is no second value where the second window is empty.
-#[derive(Clone, Copy)]
+#[derive(Clone, Copy, Debug, PartialEq, Eq)]
 pub struct Report {
     pub disturbance: u32,
     pub recovery: Option<u32>,
@@ -21,7 +21,7 @@ pub struct Report {
 }
 
 // What an owner claims: a service, and the amount that was enabled for it, in W.
-#[derive(Clone, Copy)]
+#[derive(Clone, Copy, Debug, PartialEq, Eq)]
 pub struct Claim {
     pub service: Service,
     pub enabled: i64,

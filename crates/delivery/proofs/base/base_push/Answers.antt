@@ -1,5 +1,5 @@
 -- A push and what it is raised by.
-use Rattle.std.proofs.Common.{◌≡◌, ℤ, pos, ◌+ℤ◌, ◌-ℤ◌, ◌*ℤ◌, sym, ap, subst, arith, to_z, of_z}
+use Rattle.std.proofs.Common.{◌≡◌, ◌∙◌, ℤ, pos, ◌+ℤ◌, ◌-ℤ◌, ◌*ℤ◌, sym, ap, subst, arith, to_z, of_z}
 use mir.Syntax.{w128}
 use Rattle.std.specs.Int.{int_max}
 use Rattle.std.proofs.lemmas.Int.{to_z-of_z}
@@ -8,13 +8,14 @@ use Rattle.exact.specs.Limits.{Within}
 use Rattle.exact.proofs.Limits.{within_fits, within_more, within-+, within--}
 use Rattle.figure.specs.Steps.{base_push, to_half_up}
 use Rattle.delivery.proofs.Held.{Held, held, HeldSum, held_sum, hundred}
-use Rattle.delivery.proofs.Basing.{level_is, raised_is, rise_within}
+use Rattle.std.proofs.lemmas.Bool.{eqb-true}
+use Rattle.delivery.proofs.Basing.{some_there, level_is, raised_is, rise_within}
 use Rattle.delivery.proofs.base.base_push.Goals as goal
 
-pub returns-then-targets-eq0 : goal.returns-then-targets-eq0
-returns-then-targets-eq0 c = let p = hundred c.in_hundredths-pushed.ensures c.requires.0.push_within in
+pub returns-then-is_empty : goal.returns-then-is_empty
+returns-then-is_empty c = let p = hundred c.in_hundredths-pushed.ensures c.requires.small in
     record {
-      is = subst (λ (x : ℤ). Is (base_push to_half_up c.args.disturbance.direction c.args.targets.now c.args.disturbance.time c.args.point) x 1) (sym p.is) (level_is c.args.disturbance.direction c.args.targets.now c.args.disturbance.time c.args.point c.if-targets-eq0.true);
+      is = subst (λ (x : ℤ). Is (base_push to_half_up c.args.disturbance.direction c.args.targets.all.now c.args.disturbance.time c.args.point) x 1) (sym p.is) (level_is c.args.disturbance.direction c.args.targets.all.now c.args.disturbance.time c.args.point (eqb-true _ 0 (sym c.is_empty.ensures ∙ c.if-is_empty.true)));
       within = within_more (omega arith) p.within;
     }
 
@@ -29,7 +30,7 @@ rise {a} {b} {m} h k e =
 
 sum : (c : goal.After-max) → HeldSum 300000000000 (to_z w128 (of_z w128 c.in_hundredths-pushed.result)) c.max.result (c.args.point.push *ℤ pos 100 +ℤ int_max (c.trajectory-there.result -ℤ c.trajectory-here.result) (pos 0))
 sum c =
-    let p = hundred c.in_hundredths-pushed.ensures c.requires.0.push_within in
+    let p = hundred c.in_hundredths-pushed.ensures c.requires.small in
     let m = rise c.trajectory-there.ensures.within c.trajectory-here.ensures.within c.max.ensures.value in
     held_sum (omega arith) m.is (ap (λ (x : ℤ). x +ℤ int_max (c.trajectory-there.result -ℤ c.trajectory-here.result) (pos 0)) p.is)
     (within_more (omega arith) (within-+ p.within (rise_within _ _ c.trajectory-there.ensures.within c.trajectory-here.ensures.within)))
@@ -40,7 +41,7 @@ overflow_add-result c = (sum c).fits
 pub returns : goal.returns
 returns c =
     record {
-      is = subst (λ (x : ℤ). Is (base_push to_half_up c.args.disturbance.direction c.args.targets.now c.args.disturbance.time c.args.point) x 1) (sym (sum c).is)
-          (raised_is c.args.disturbance.direction c.args.targets.now c.args.disturbance.time c.args.point _ _ (omega arith) c.trajectory-there.ensures.is c.trajectory-here.ensures.is);
+      is = subst (λ (x : ℤ). Is (base_push to_half_up c.args.disturbance.direction c.args.targets.all.now c.args.disturbance.time c.args.point) x 1) (sym (sum c).is)
+          (raised_is c.args.disturbance.direction c.args.targets.all.now c.args.disturbance.time c.args.point _ _ (some_there _ (sym c.is_empty.ensures ∙ c.if-is_empty.false)) c.trajectory-there.ensures.is c.trajectory-here.ensures.is);
       within = (sum c).within;
     }

@@ -1,50 +1,61 @@
--- The fifth defect applies, or none does: the first four have been passed.
-use Rattle.std.proofs.Common.{◌≡◌, ℕ, ◌-◌, false, List, [], ◌∷◌, take, ℤ, Decides, Option, refl, subst, inl, inr, arith, w64, SFits, to_z, of_z, rules}
+-- The third defect applies, or the fifth, or none does: the earlier ones have been passed.
+use Rattle.std.proofs.Common.{◌≡◌, ℕ, false, List, [], ◌∷◌, take, ℤ, Decides, Option, Result, Some, IfOk, Ok, Err, refl, ap, ◌∙◌, subst, inl, inr, w64, SFits, to_z, of_z, rules}
+use Rattle.std.specs.Result.{IsErrAnd, result_err}
 use Rattle.std.proofs.lemmas.Int.{to_z-of_z}
 use Rattle.std.proofs.lemmas.Bool.Decides.{not_from_Decides}
 use Rattle.recording.specs.declared.refusal.Reason.{Reason}
-use Rattle.recording.specs.declared.refusal.Reason.TheVariants.{OutsideTargets}
-use Rattle.recording.specs.declared.sample.Sample.{Sample}
+use Rattle.recording.specs.declared.refusal.Reason.TheVariants.{OtherTargets, NoBaseSample, OutsideTargets}
 use Rattle.timeline.specs.declared.target.Target.{Target}
-use Rattle.timeline.specs.Checks.{FirstFault}
+use Rattle.timeline.specs.Checks.{Fault, FirstFault}
 use Rattle.timeline.specs.Orders.{Sound}
 use Rattle.timeline.specs.Targets.{targets}
-use Rattle.disturbance.specs.declared.disturbance.Disturbance.{Disturbance}
-use Rattle.response.specs.declared.base.BaseWindow.{BaseWindow}
-use Rattle.figure.specs.Points.{course}
-use Rattle.figure.specs.Steps.{base_points}
-use Rattle.figure.specs.Defects.{BadAmount, WrongSide, MissedByTargets, defect, early_defects}
+use Rattle.figure.specs.Defects.{BadAmount, WrongSide, BadTargets, MissedByTargets, defect, early_defects}
+use Rattle.delivery.specs.declared.ground.Ground.{Ground}
+use Rattle.delivery.specs.declared.targets.Targets.{Targets}
 use Rattle.delivery.specs.declared.terms.Terms.{Terms}
+use Rattle.delivery.specs.Grounds.{points_on}
 use Rattle.delivery.proofs.defects.early_defect.Goals as goal
 
--- the times that are missed, by how many targets are counted
-abbrev Missing : List Sample → Disturbance → BaseWindow → List Target → ℕ → Type 0
-Missing xs d w table n = MissedByTargets (take n table) d.time (base_points d.time w (course d.direction xs))
+err_is : {T : Type 0} (r : Result T Reason) (why : Reason) → IsErrAnd r (λ e. e ≡ why) → result_err r ≡ Some why
+err_is (Ok x) why e = absurd e
+err_is (Err f) why e = ap (λ (w : Reason). Some w) e
 
-past_four : (xs : List Sample) (d : Disturbance) (w : BaseWindow) (table : List Target) (count : ℕ) (terms : Terms) → SFits w64 terms.enabled → Decides false (BadAmount (to_z w64 (of_z w64 terms.enabled))) → Decides false (WrongSide terms.side d.direction) → Sound targets count table → Decides false (base_points d.time w (course d.direction xs) ≡ [])
-    → (r : Option Reason) → FirstFault (defect (Missing xs d w table count) OutsideTargets ∷ []) r → FirstFault (early_defects xs d w table count terms.side terms.enabled) r
-past_four xs d w table count terms z amount side sound base r h =
-    inr (
-      subst (λ (a : ℤ). BadAmount a → ⊥) (to_z-of_z w64 terms.enabled z) (not_from_Decides false amount refl),
-      inr (
-        not_from_Decides false side refl,
-        inr (
-          (λ bad. bad sound),
-          inr (not_from_Decides false base refl, h),
-        ),
-      ),
-    )
+none_found : {T : Type 0} (r : Result T Reason) (P : T → Type 0) (Q : Reason → Type 0) → IsErrAnd r Q → IfOk r P
+none_found (Ok x) P Q e = absurd e
+none_found (Err f) P Q e = tt
+
+-- the amount and the side have been passed
+module _ (g : Ground) (table : List Target) (count : ℕ) (terms : Terms) (fits : SFits w64 terms.enabled) (amount : Decides false (BadAmount (to_z w64 (of_z w64 terms.enabled)))) (side : Decides false (WrongSide terms.side g.disturbance.direction)) where
+  abbrev found : Option Reason → Type 0
+  found r = FirstFault (early_defects g.trace.samples.now g.disturbance g.window table count terms.side terms.enabled) r
+
+  two : (r : Option Reason) → FirstFault (defect (BadTargets count table) OtherTargets ∷ defect (points_on g ≡ []) NoBaseSample ∷ defect (MissedByTargets (take count table) g.disturbance.time (points_on g)) OutsideTargets ∷ []) r → found r
+  two r h = inr (subst (λ (a : ℤ). BadAmount a → ⊥) (to_z-of_z w64 terms.enabled fits) (not_from_Decides false amount refl), inr (not_from_Decides false side refl, h))
+
+  four : Sound targets count table → Decides false (points_on g ≡ []) → (gs : List Target) → gs ≡ take count table → (r : Option Reason) → FirstFault (defect (MissedByTargets gs g.disturbance.time (points_on g)) OutsideTargets ∷ []) r → found r
+  four sound base gs e r h = two r (inr ((λ bad. bad sound), inr (not_from_Decides false base refl, subst (λ (hs : List Target). FirstFault (defect (MissedByTargets hs g.disturbance.time (points_on g)) OutsideTargets ∷ []) r) e h)))
+
+pub returns-in_err-targets : goal.returns-in_err-targets
+returns-in_err-targets c =
+    let z : SFits w64 c.args.terms.enabled = search rules in
+    let e = err_is _ _ c.from_residual.ensures.1 ∙ ap (λ (w : Reason). Some w) c.in_err-targets.ensures.1 in
+    record {
+      defect = two c.args.ground c.args.table.now c.args.count c.args.terms z c.if-is_bad_amount.ensures c.if-is_wrong_side.ensures _ (inl (c.in_err-targets.ensures.0, e));
+      counted = none_found {T = Targets} c.from_residual.result (λ gs. gs.all.now ≡ take c.args.count c.args.table.now) (λ e. e ≡ c.in_err-targets.field-0.0) c.from_residual.ensures.1;
+    }
 
 pub returns-then-is_missed : goal.returns-then-is_missed
 returns-then-is_missed c =
-    let e : c.args.count - 0 ≡ c.args.count = omega arith in
     let z : SFits w64 c.args.terms.enabled = search rules in
-    let missed = subst (Missing c.args.samples.now c.args.disturbance c.args.window c.args.targets.now) e (c.if-is_missed.ensures.0 refl) in
-    past_four c.args.samples.now c.args.disturbance c.args.window c.args.targets.now c.args.count c.args.terms z c.if-is_bad_amount.ensures c.if-is_wrong_side.ensures (c.if-not-is_sound.ensures.sound.0 refl) c.if-lacks_base.ensures _ (inl (missed, refl))
+    record {
+      defect = four c.args.ground c.args.table.now c.args.count c.args.terms z c.if-is_bad_amount.ensures c.if-is_wrong_side.ensures c.in_ok-targets.ensures.0 c.if-lacks_base.ensures _ c.in_ok-targets.ensures.1 _ (inl (c.if-is_missed.ensures.0 refl, refl));
+      counted = tt;
+    }
 
 pub returns : goal.returns
 returns c =
-    let e : c.args.count - 0 ≡ c.args.count = omega arith in
     let z : SFits w64 c.args.terms.enabled = search rules in
-    let hit = subst (λ (n : ℕ). Missing c.args.samples.now c.args.disturbance c.args.window c.args.targets.now n → ⊥) e (not_from_Decides false c.if-is_missed.ensures refl) in
-    past_four c.args.samples.now c.args.disturbance c.args.window c.args.targets.now c.args.count c.args.terms z c.if-is_bad_amount.ensures c.if-is_wrong_side.ensures (c.if-not-is_sound.ensures.sound.0 refl) c.if-lacks_base.ensures _ (inr (hit, refl))
+    record {
+      defect = four c.args.ground c.args.table.now c.args.count c.args.terms z c.if-is_bad_amount.ensures c.if-is_wrong_side.ensures c.in_ok-targets.ensures.0 c.if-lacks_base.ensures _ c.in_ok-targets.ensures.1 _ (inr (not_from_Decides false c.if-is_missed.ensures refl, refl));
+      counted = c.in_ok-targets.ensures.1;
+    }

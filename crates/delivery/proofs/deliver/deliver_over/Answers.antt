@@ -1,21 +1,17 @@
-use Rattle.std.proofs.Common.{◌≡◌, ℕ, ◌-◌, ◌<◌, ◌≤◌, List, length, take, sym, subst, inl, inr, arith, w64, SFits, rules}
-use Rattle.std.specs.List.{AllByRecursion}
+use Rattle.std.proofs.Common.{◌≡◌, ℕ, ◌-◌, ◌<◌, ◌≤◌, List, length, take, sym, ◌∙◌, subst, inl, inr, arith, w64, SFits, rules}
 use Rattle.std.proofs.lemmas.Int.{to_z-of_z}
-use Rattle.figure.specs.declared.point.Point.{Point}
 use Rattle.figure.specs.declared.span.Span.{Span}
-use Rattle.figure.specs.Points.{course}
-use Rattle.figure.specs.Steps.{base_points}
-use Rattle.figure.specs.Defects.{span_defects}
+use Rattle.figure.specs.Defects.{MissedByTargets, early_defects, span_defects}
 use Rattle.figure.proofs.Standing.{none_apply}
-use Rattle.delivery.specs.Limits.{Usable, Aimed, BeginsBy}
+use Rattle.delivery.specs.declared.ground.Ground.{Ground}
+use Rattle.delivery.specs.Grounds.{points_on}
 use Rattle.recording.specs.declared.sample.Sample.{Sample}
 use Rattle.timeline.specs.declared.target.Target.{Target}
 use Rattle.disturbance.specs.declared.disturbance.Disturbance.{Disturbance}
 use Rattle.response.specs.declared.settings.Settings.{Settings}
 use Rattle.figure.specs.Asked.{Asked, asked_by}
 use Rattle.delivery.specs.declared.terms.Terms.{Terms}
-use Rattle.delivery.proofs.Answering.{shifts, refused_early, refused_never, refused_late, reported, fills}
-use Rattle.delivery.proofs.Grounds.{sound_targets, grounds}
+use Rattle.delivery.proofs.Answering.{shift_lost, shift_found, shifts, refused_early, refused_never, refused_late, reported, fills}
 use Rattle.delivery.proofs.deliver.deliver_over.Given as given
 use Rattle.delivery.proofs.deliver.deliver_over.Goals as goal
 
@@ -23,37 +19,33 @@ use Rattle.delivery.proofs.deliver.deliver_over.Goals as goal
 abbrev asked : (g : given.Over) → List Sample → Disturbance → Settings → g.row.R.Denot → List Target → ℕ → Terms → Asked
 asked g xs d settings rule table count terms = asked_by xs d settings (g.R.ResponseRule.triggers rule) (g.R.ResponseRule.weighs rule) table count terms.side terms.row terms.enabled
 
-pub returns-in-Some : goal.returns-in-Some
-returns-in-Some g c = refused_early (asked g c.args.trace.samples.now c.args.disturbance c.args.settings.now c.args.rule.now c.args.targets.now c.args.count c.args.terms) _ _ _ _ c.trigger-trigger.ensures.answer c.base-window.ensures c.recovery-restored.ensures.first c.reached-triggered.ensures c.in-Some.reason _ c.in-Some.ensures c.refused.ensures
+pub returns-in_err-counted : goal.returns-in_err-counted
+returns-in_err-counted g c = refused_early (asked g c.args.trace.samples.now c.args.disturbance c.args.settings.now c.args.rule.now c.args.targets.now c.args.count c.args.terms) _ _ _ _ c.trigger-trigger.ensures.answer c.base.ensures c.recovery-restored.ensures.first c.reached-triggered.ensures _ _ c.in_err-counted.ensures.defect c.from_residual.ensures.1
 
-pub returns-in_default-shift : goal.returns-in_default-shift
-returns-in_default-shift g c =
+pub returns-in_err-by : goal.returns-in_err-by
+returns-in_err-by g c =
     let a = (asked g c.args.trace.samples.now c.args.disturbance c.args.settings.now c.args.rule.now c.args.targets.now c.args.count c.args.terms) in
-    let none = shifts a _ _ _ _ c.trigger-trigger.ensures.answer c.base-window.ensures c.recovery-restored.ensures.first c.reached-triggered.ensures c.in_default-shift.ensures.is in
-    refused_never a _ _ _ _ c.trigger-trigger.ensures.answer c.base-window.ensures c.recovery-restored.ensures.first c.reached-triggered.ensures c.in_default.ensures _ none c.refused-in_default-shift.ensures
+    let lost = shift_lost _ _ _ c.ok_or.ensures.value c.in_err-by.was in
+    let none = shifts a _ _ _ _ c.trigger-trigger.ensures.answer c.base.ensures c.recovery-restored.ensures.first c.reached-triggered.ensures c.shift.ensures.is ∙ lost.0 in
+    refused_never a _ _ _ _ c.trigger-trigger.ensures.answer c.base.ensures c.recovery-restored.ensures.first c.reached-triggered.ensures c.in_ok-counted.ensures.defect _ _ (none, lost.1) c.from_residual-in_err-by.ensures.1
 
-pub returns-in-Some-span_defect : goal.returns-in-Some-span_defect
-returns-in-Some-span_defect g c =
-    let z : SFits w64 c.in-Some-shift.by = search rules in
+pub returns-in_err-span_defect : goal.returns-in_err-span_defect
+returns-in_err-span_defect g c =
+    let z : SFits w64 c.in_ok-by.by = search rules in
     let a = (asked g c.args.trace.samples.now c.args.disturbance c.args.settings.now c.args.rule.now c.args.targets.now c.args.count c.args.terms) in
-    let shifted = shifts a _ _ _ _ c.trigger-trigger.ensures.answer c.base-window.ensures c.recovery-restored.ensures.first c.reached-triggered.ensures c.in-Some-shift.ensures.is in
-    refused_late a _ _ _ _ c.trigger-trigger.ensures.answer c.base-window.ensures c.recovery-restored.ensures.first c.reached-triggered.ensures c.in_default.ensures c.in-Some-shift.by shifted _ _ (simp (to_z-of_z w64 c.in-Some-shift.by z) at c.placed-first.ensures) (simp (to_z-of_z w64 c.in-Some-shift.by z) at c.placed-second.ensures)
-    c.in-Some-span_defect.reason _ c.in-Some-span_defect.ensures c.refused-in-Some-span_defect.ensures
-
-pub slice_bounds-counted-end : goal.slice_bounds-counted-end
-slice_bounds-counted-end g c = (sound_targets c.args.trace.samples.now c.args.trace.sound c.args.disturbance c.base-window.result c.args.targets.now c.args.count c.args.terms.side c.args.terms.enabled c.in_default.ensures).room
+    let shifted = shifts a _ _ _ _ c.trigger-trigger.ensures.answer c.base.ensures c.recovery-restored.ensures.first c.reached-triggered.ensures c.shift.ensures.is ∙ shift_found _ _ _ c.ok_or.ensures.value c.in_ok-by.was in
+    refused_late a _ _ _ _ c.trigger-trigger.ensures.answer c.base.ensures c.recovery-restored.ensures.first c.reached-triggered.ensures c.in_ok-counted.ensures.defect c.in_ok-by.by shifted _ _ (simp (to_z-of_z w64 c.in_ok-by.by z) at c.placed-first.ensures) (simp (to_z-of_z w64 c.in_ok-by.by z) at c.placed-second.ensures)
+    _ _ c.in_err-span_defect.ensures c.from_residual-in_err-span_defect.ensures.1
 
 pub basis-from-requires : goal.basis-from-requires
 basis-from-requires g c =
-    let e : c.args.count ≡ c.args.count - 0 = omega arith in
-    let held = subst (λ (n : ℕ). (Usable (course c.args.disturbance.direction c.args.trace.samples.now) × (0 < length (base_points c.args.disturbance.time c.base-window.result (course c.args.disturbance.direction c.args.trace.samples.now))))
-    × (AllByRecursion Aimed (take n c.args.targets.now) × (BeginsBy (λ (h : Target). h.time) c.args.disturbance.time (take n c.args.targets.now) × AllByRecursion (λ (p : Point). BeginsBy (λ (h : Target). h.time) p.time (take n c.args.targets.now)) (base_points c.args.disturbance.time c.base-window.result (course c.args.disturbance.direction c.args.trace.samples.now))))) e
-    (grounds c.args.trace.samples.now c.args.trace.sound c.args.disturbance c.base-window.result c.args.targets.now c.args.count c.args.terms.side c.args.terms.enabled c.in_default.ensures) in
-    record { usable = held.0; all = held.1 }
+    let ground : Ground = record { trace = c.args.trace; disturbance = c.args.disturbance; window = c.base.result } in
+    let none = none_apply (early_defects c.args.trace.samples.now c.args.disturbance c.base.result c.args.targets.now c.args.count c.args.terms.side c.args.terms.enabled) c.in_ok-counted.ensures.defect in
+    record { some = none.1.1.1.0; reached = subst (λ (gs : List Target). MissedByTargets gs c.args.disturbance.time (points_on ground) → ⊥) (sym c.in_ok-counted.ensures.counted) none.1.1.1.1.0 }
 
 pub window_values-found-requires : goal.window_values-found-requires
 window_values-found-requires g c =
-    let none = none_apply (span_defects c.args.trace.samples.now c.args.terms.row.widest_gap c.placed-first.result c.placed-second.result) c.in_default-span_defect.ensures in
+    let none = none_apply (span_defects c.args.trace.samples.now c.args.terms.row.widest_gap c.placed-first.result c.placed-second.result) c.in_ok-span_defect.ensures in
     record {
       times = (subst (λ (w : Span). w.multiplier ≤ 2) (sym c.placed-first.ensures) c.requires.first.times.1, subst (λ (w : Span). w.multiplier ≤ 2) (sym c.placed-second.ensures) c.requires.second.times.1);
       stand = (none.0, ((λ b. none.1.0 (inl b)), (λ b. none.1.0 (inr b))));
@@ -61,10 +53,10 @@ window_values-found-requires g c =
 
 pub returns : goal.returns
 returns g c =
-    let z : SFits w64 c.in-Some-shift.by = search rules in
+    let z : SFits w64 c.in_ok-by.by = search rules in
     let a = (asked g c.args.trace.samples.now c.args.disturbance c.args.settings.now c.args.rule.now c.args.targets.now c.args.count c.args.terms) in
-    let shifted = shifts a _ _ _ _ c.trigger-trigger.ensures.answer c.base-window.ensures c.recovery-restored.ensures.first c.reached-triggered.ensures c.in-Some-shift.ensures.is in
-    let first = simp (to_z-of_z w64 c.in-Some-shift.by z) at c.placed-first.ensures in
-    let second = simp (to_z-of_z w64 c.in-Some-shift.by z) at c.placed-second.ensures in
-    reported a _ _ _ _ c.trigger-trigger.ensures.answer c.base-window.ensures c.recovery-restored.ensures.first c.reached-triggered.ensures c.in_default.ensures c.in-Some-shift.by shifted _ _ first second _ c.in_default-span_defect.ensures
-    (fills a _ _ c.basis-from.result _ _ _ c.base-window.ensures first second c.basis-from.ensures.time c.basis-from.ensures.base _ _ c.window_values-found.ensures.first c.window_values-found.ensures.second c.judged.ensures)
+    let shifted = shifts a _ _ _ _ c.trigger-trigger.ensures.answer c.base.ensures c.recovery-restored.ensures.first c.reached-triggered.ensures c.shift.ensures.is ∙ shift_found _ _ _ c.ok_or.ensures.value c.in_ok-by.was in
+    let first = simp (to_z-of_z w64 c.in_ok-by.by z) at c.placed-first.ensures in
+    let second = simp (to_z-of_z w64 c.in_ok-by.by z) at c.placed-second.ensures in
+    reported a _ _ _ _ c.trigger-trigger.ensures.answer c.base.ensures c.recovery-restored.ensures.first c.reached-triggered.ensures c.in_ok-counted.ensures.defect c.in_ok-by.by shifted _ _ first second _ c.in_ok-span_defect.ensures
+    (fills a _ _ c.basis-from.result _ c.in_ok-counted.counted.all.now _ _ c.base.ensures first second c.basis-from.ensures.time c.in_ok-counted.ensures.counted c.basis-from.ensures.base _ _ c.window_values-found.ensures.first c.window_values-found.ensures.second c.judged.ensures)

@@ -1,14 +1,11 @@
-use Rattle.std.proofs.Common.{ℤ, Option, sym, ap, ◌∙◌, w64, SFits, rules}
-use Rattle.std.proofs.lemmas.Int.{to_z-of_z}
-use Rattle.exact.specs.Fractions.{whole}
+use Rattle.std.proofs.Common.{◌≡◌, ℤ, sym, ap, ◌∙◌, rules}
+use Rattle.std.specs.Int.{int_min}
+use Rattle.exact.specs.Fractions.{whole, lesser}
 use Rattle.exact.proofs.Wholes.{lesser_whole}
-use Rattle.figure.specs.Steps.{lesser_of, or_none}
 use Rattle.delivery.proofs.judging.lesser.Goals as goal
 
-pub returns-in-Some : goal.returns-in-Some
-returns-in-Some c =
-    let x : SFits w64 c.args.values.first = search rules in
-    let y : SFits w64 c.in-Some.second = search rules in
-    let z : SFits w64 c.min.result = search rules in
-    ap whole (to_z-of_z w64 c.min.result z ∙ (simp to_z-of_z at c.min.ensures.value)) ∙ sym (lesser_whole c.args.values.first c.in-Some.second)
-    ∙ sym (ap (λ (o : Option ℤ). lesser_of (whole c.args.values.first) (or_none whole o)) c.in-Some.is)
+lesser_is : (r a b : ℤ) → r ≡ int_min a b → whole r ≡ lesser (whole a) (whole b)
+lesser_is r a b e = ap whole e ∙ sym (lesser_whole a b)
+
+pub returns : goal.returns
+returns c = search (rules, lesser_is)

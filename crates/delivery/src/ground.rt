@@ -1,0 +1,68 @@
+// What a base is taken from.
+ghost use Rattle.std.specs.Prelude.{◌≡◌, ◌<◌, true, [], length, Decides};
+ghost use Rattle.figure.specs.Steps.{is_base};
+ghost use Rattle.figure.specs.Defects.{Missed, OneMissed, MissedByTargets};
+ghost use Rattle.delivery.specs.Grounds.{points_on};
+
+use crate::points::turned;
+use crate::targets::Targets;
+use disturbance::disturbance::Disturbance;
+use disturbance::trace::Trace;
+use figure::point::Point;
+use response::base::BaseWindow;
+
+// A trace, as its disturbance turns it, and the base window before the disturbance.
+#[derive(Clone, Copy)]
+pub(crate) struct Ground<'a> {
+    pub(crate) trace: Trace<'a>,
+    pub(crate) disturbance: Disturbance,
+    pub(crate) window: BaseWindow,
+}
+
+impl Ground<'_> {
+    // Whether a point counts for the base. Both edges are inside.
+    pub(crate) fn counts(self, point: Point) -> bool
+        ensures { result ≡ is_base self.entry.disturbance.time self.entry.window point }
+    {
+        let disturbance = self.disturbance.time as u64;
+        disturbance <= point.time as u64 + self.window.begin as u64
+            && point.time as u64 + self.window.end as u64 <= disturbance
+    }
+
+    // Whether no sample counts for the base.
+    pub(crate) fn lacks_base(self) -> bool
+        ensures { Decides result (points_on self.entry ≡ []) }
+    {
+        let direction = self.disturbance.direction;
+        !self
+            .trace
+            .samples
+            .iter()
+            .any(|sample| self.counts(turned(direction, *sample)))
+    }
+
+    // Whether a point counts for the base and is at a time that the targets miss.
+    fn has_missed(self, targets: Targets, point: Point) -> bool
+        ensures { Decides result ((is_base self.entry.disturbance.time self.entry.window point ≡ true) × ((0 < length targets.entry.all.now) × (Missed targets.entry.all.now point.time))) }
+    {
+        self.counts(point) && targets.miss(point.time)
+    }
+
+    // Whether one of the samples does and is. One pass over them.
+    fn misses_one(self, targets: Targets) -> bool
+        ensures { Decides result ((0 < length targets.entry.all.now) × (OneMissed targets.entry.all.now (points_on self.entry))) }
+    {
+        let direction = self.disturbance.direction;
+        self.trace
+            .samples
+            .iter()
+            .any(|sample| self.has_missed(targets, turned(direction, *sample)))
+    }
+
+    // Whether, with targets, the disturbance or a base sample is at such a time.
+    pub(crate) fn is_missed(self, targets: Targets) -> bool
+        ensures { Decides result (MissedByTargets targets.entry.all.now self.entry.disturbance.time (points_on self.entry)) }
+    {
+        targets.miss(self.disturbance.time) || self.misses_one(targets)
+    }
+}
