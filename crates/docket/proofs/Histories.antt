@@ -1,5 +1,5 @@
 -- What every history keeps: the accepted samples are in order and have their places.
-use Rattle.std.proofs.Common.{◌≡◌, ℕ, ◌+◌, ◌<◌, ◌≤◌, Bool, true, false, ◌||◌, List, [], ◌∷◌, ◌++◌, length, Some, None, Ok, Err, Option, Result, sym, refl, ap, ◌∙◌, subst, append_assoc, append-nil, arith, length-append, length-set}
+use Rattle.std.proofs.Common.{◌≡◌, ℕ, ◌+◌, ◌<◌, ◌≤◌, false, List, [], ◌∷◌, ◌++◌, length, Some, None, Ok, Err, Option, Result, sym, refl, ap, ◌∙◌, subst, append_assoc, append-nil, arith, length-append, length-set}
 use Rattle.std.specs.List.{remove}
 use Rattle.recording.specs.declared.refusal.Field.{Field}
 use Rattle.recording.specs.declared.refusal.Reason.{Reason}
@@ -44,10 +44,6 @@ empty_fit places = record { ordered = record { within = λ i d h. absurd (omega 
 given : (x : Result Sample Field) → field_outside x ≡ None → (s : Sample) × (x ≡ Ok s)
 given (Ok s) e = (s, refl)
 given (Err f) e = let z : ◌≡◌ {A = ℕ} 0 1 = cc in absurd (omega arith)
-
-or_left : (a b : Bool) → (a || b) ≡ false → a ≡ false
-or_left true b e = e
-or_left false b e = refl
 
 -- ---- one sample more at the end
 pub record Grown (places : ℕ) (xs : List Sample) (r : Reading) : Type 0 where

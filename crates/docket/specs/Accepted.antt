@@ -7,7 +7,7 @@ use Rattle.recording.specs.declared.sample.Sample.{Sample}
 use Rattle.recording.specs.declared.reading.Reading.{Reading}
 use Rattle.recording.specs.declared.interface.Member.{Member}
 use Rattle.recording.specs.Refusals.{refusal}
-use Rattle.timeline.specs.Checks.{first_of, unless}
+use Rattle.timeline.specs.Checks.{first_of}
 use Rattle.timeline.specs.Samples.{samples}
 use Rattle.timeline.specs.Orders.{time_before}
 use Rattle.timeline.specs.Faults.{strike_faults}
@@ -57,7 +57,7 @@ load_record places xs ms = kept (record_fault places xs ms) (xs ++ all_samples m
 
 -- a count, unless there is a refusal
 abbrev pub counted : ℕ → Option Refusal → Result ℕ Refusal
-counted n fault = unless fault n
+counted n fault = answered (λ f. f) n fault
 
 abbrev pub load_answer : ℕ → List Sample → List Member → Result ℕ Refusal
 load_answer places xs ms = counted (length (xs ++ all_samples ms)) (record_fault places xs ms)

@@ -10,7 +10,7 @@ use Rattle.recording.specs.Refusals.{refusal}
 use Rattle.timeline.specs.Samples.{samples}
 use Rattle.timeline.specs.Orders.{is_sound}
 use Rattle.timeline.specs.Faults.{other_table}
-use Rattle.timeline.specs.Timelines.{Outcome, over}
+use Rattle.timeline.specs.Timelines.{Outcome, written}
 use Rattle.disturbance.specs.declared.disturbance.Disturbance.{Disturbance}
 use Rattle.disturbance.specs.Disturbance.{disturbance_of}
 use Rattle.docket.specs.declared.docket.OpenDocket.{OpenDocket}
@@ -61,8 +61,7 @@ table_fault count table ms = cond (is_sound samples count table) (record_fault (
 
 -- samples laid over the table's front, unless there is a refusal
 abbrev pub laid : Option Refusal → List Sample → List Sample → List Sample
-laid None xs table = over xs table
-laid (Some f) xs table = table
+laid fault xs table = written fault xs table
 
 pub record LoadsMembers (count : ℕ) (table : List Sample) (ms : List Member) (r : Result ℕ Refusal) (new : List Sample) : Type 0 where
   pub answer : r ≡ counted (length (take count table ++ all_samples ms)) (table_fault count table ms)

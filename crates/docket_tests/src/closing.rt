@@ -37,12 +37,7 @@ fn stays_open(rt: &impl Abort, docket: OpenDocket, table: &[Sample]) -> Result<O
 }
 
 // A docket with two samples, at 100 and 150 ms.
-fn pair(
-    rt: &impl Abort,
-    table: &mut [Sample],
-    first: u32,
-    second: u32,
-) -> OpenDocket {
+fn pair(rt: &impl Abort, table: &mut [Sample], first: u32, second: u32) -> OpenDocket {
     let mut docket = OpenDocket::new();
     counts(rt, docket.put(table, reading(100, first, 0)), 1);
     counts(rt, docket.put(table, reading(150, second, 0)), 2);

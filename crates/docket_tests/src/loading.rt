@@ -8,13 +8,9 @@ use std::process::Abort;
 use std::test::Fail;
 
 // No place of the table was written, and the docket has no sample: one of time 0 may be put.
-fn is_untouched(
-    rt: &impl Abort,
-    docket: &mut OpenDocket,
-    table: &mut [Sample],
-) {
-    for place in 0..table.len() {
-        is_blank(rt, table, place);
+fn is_untouched(rt: &impl Abort, docket: &mut OpenDocket, table: &mut [Sample]) {
+    for sample in table.iter() {
+        assert_eq!(rt; *sample, BLANK);
     }
     counts(rt, docket.put(table, steady(0)), 1);
 }

@@ -8,11 +8,7 @@ use std::test::Fail;
 
 // Every call on the table is refused, whatever else is wrong with it. Put tells the count, 3; amend and
 // strike tell the place given; load tells none.
-fn is_refused_by_all(
-    rt: &impl Abort,
-    docket: &mut OpenDocket,
-    other: &mut [Sample],
-) {
+fn is_refused_by_all(rt: &impl Abort, docket: &mut OpenDocket, other: &mut [Sample]) {
     refused(rt, docket.put(other, steady(400)), 1, 3);
     refused(rt, docket.put(other, reading(400, 46_999, 0)), 1, 3);
     refused(rt, docket.amend(other, 9, reading(400, 46_999, 0)), 1, 9);
