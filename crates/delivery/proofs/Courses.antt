@@ -37,31 +37,7 @@ after_strict t ps h = after_from t ps h t (omega arith)
 pub after_all : (t : ℕ) (ps : List Point) → After t ps → (l : ℕ) → l ≤ t → AllByRecursion (λ p. l ≤ p.time) ps
 after_all t ps h l le = All-weaker (λ p. l < p.time) _ (λ p k. omega arith) ps (after_from t ps h l le)
 
-pub after_rises : (t : ℕ) (ps : List Point) → After t ps → Rises ps
-after_rises t [] h = tt
-after_rises t (p ∷ ps) h = h.1
-
-after_take : (n t : ℕ) (ps : List Point) → After t ps → After t (take n ps)
-after_take zero t ps h = tt
-after_take (suc n) t [] h = tt
-after_take (suc n) t (p ∷ ps) h = (h.0, after_take n p.time ps h.1)
-
-pub rises_take : (n : ℕ) (ps : List Point) → Rises ps → Rises (take n ps)
-rises_take zero ps h = tt
-rises_take (suc n) [] h = tt
-rises_take (suc n) (p ∷ ps) h = after_take n p.time ps h
-
-pub rises_drop : (n : ℕ) (ps : List Point) → Rises ps → Rises (drop n ps)
-rises_drop zero ps h = h
-rises_drop (suc n) [] h = tt
-rises_drop (suc n) (p ∷ ps) h = rises_drop n ps (after_rises p.time ps h)
-
 -- ---- entries that begin by a time
 pub begins_later : {X : Type 0} (time : X → ℕ) (t u : ℕ) (xs : List X) → t ≤ u → BeginsBy time t xs → BeginsBy time u xs
 begins_later time t u [] le h = tt
 begins_later time t u (x ∷ xs) le h = omega arith
-
-pub begins_take : {X : Type 0} (time : X → ℕ) (n t : ℕ) (xs : List X) → BeginsBy time t xs → BeginsBy time t (take n xs)
-begins_take time zero t xs h = tt
-begins_take time (suc n) t [] h = tt
-begins_take time (suc n) t (x ∷ xs) h = h

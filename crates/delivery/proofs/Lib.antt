@@ -12,7 +12,6 @@ pub mod Sounds
 pub mod Ends
 pub mod Keeping
 pub mod Signs
-pub mod Shifting
 pub mod Reaching
 pub mod Answering
 pub mod Clocked

@@ -10,7 +10,8 @@ use Rattle.exact.proofs.Limits.{within_in, within_more, within-+, within-*}
 use Rattle.figure.specs.declared.point.Point.{Point}
 use Rattle.figure.specs.Points.{After, Rises}
 use Rattle.figure.specs.Steps.{inside}
-use Rattle.delivery.proofs.Courses.{after_strict, after_rises}
+use Rattle.figure.proofs.Rising.{after_rises}
+use Rattle.delivery.proofs.Courses.{after_strict}
 
 pub strip_within : (v w : ℤ) (k : ℕ) → Within (2 ^ 42) v → Within (2 ^ 42) w → Within (2 ^ 43 * k) ((v +ℤ w) *ℤ pos k)
 strip_within v w k h h' = within_more (omega arith) (within-* k (within-+ h h'))

@@ -25,8 +25,8 @@ pub(crate) fn in_hundredths(watts: i64) -> i128
     watts as i128 * 100
 }
 
-// The trajectory of the targets at a time. It walks from target to target as the line is defined:
-// a search for the time's neighbours would have to tell the same three cases apart after it.
+// The trajectory of the targets at a time. It walks from target to target, as the line is defined. A
+// search for the targets around the time would leave three cases behind it: before, between and after.
 fn trajectory(targets: Targets, direction: Direction, time: u32) -> i128
     requires { BeginsBy (λ g. g.time) time targets.all.now }
     ensures is { whole result ≡ trajectory_of to_half_up direction targets.entry.all.now time }

@@ -3,7 +3,8 @@ ghost use Rattle.std.specs.Prelude.{◌≡◌, ◌^◌};
 ghost use Rattle.exact.specs.Fractions.{whole};
 ghost use Rattle.exact.specs.Limits.{Within};
 ghost use Rattle.response.specs.Weights.{Weighs};
-ghost use Rattle.figure.specs.Steps.{weight_at, compensated as compensated_of, to_half_up};
+ghost use Rattle.figure.specs.Steps.{weight_at};
+ghost use Rattle.delivery.specs.Areas.{response_from};
 ghost use Rattle.delivery.specs.Limits.{Tame};
 
 use crate::base::in_hundredths;
@@ -30,10 +31,11 @@ fn weight_at<R: ResponseRule>(point: Point, disturbance: u32, rule: &R) -> Weigh
     rule.weight(dip, offset)
 }
 
-// The compensated response in hundredths of a watt: the response times the weight, half-up.
+// The compensated response in hundredths of a watt: the response times the weight, half-up. The rule
+// stands beside the basis: a struct of both would have to be lent itself, and would shorten no clause.
 pub(crate) fn compensated<R: ResponseRule>(point: Point, basis: Basis, rule: &R) -> i128
     requires { Tame point }
-    ensures is { whole result ≡ compensated_of to_half_up (R.ResponseRule.weighs rule.now) basis.disturbance (whole basis.base) point }
+    ensures is { whole result ≡ response_from (R.ResponseRule.weighs rule.now) basis point }
     ensures within { Within (2 ^ 42) result }
 {
     let weight = weight_at(point, basis.disturbance, rule);

@@ -79,7 +79,8 @@ fn deliver_over<R: ResponseRule>(
 }
 
 // The delivery of a service on a sound record with its disturbance: the report, or the first defect
-// in the checking order. It changes nothing.
+// in the checking order. It changes nothing. The targets are the caller's table, with its count beside
+// it. Each promise is a clause of its own, so that it can be cited by its name.
 pub fn deliver<R: ResponseRule>(
     trace: Trace,
     disturbance: Disturbance,

@@ -3,8 +3,8 @@ ghost use Rattle.std.specs.Prelude.{◌≡◌, ◌-◌, ◌*◌, ◌^◌};
 ghost use Rattle.exact.specs.Fractions.{whole};
 ghost use Rattle.exact.specs.Limits.{Within};
 ghost use Rattle.figure.specs.Points.{course};
-ghost use Rattle.figure.specs.Steps.{compensated as compensated_of, value_of, to_half_up};
-ghost use Rattle.delivery.specs.Areas.{area_of, compensated_z};
+ghost use Rattle.figure.specs.Steps.{value_of, to_half_up};
+ghost use Rattle.delivery.specs.Areas.{area_of, compensated_z, response_from};
 ghost use Rattle.delivery.specs.Limits.{BeginsBy};
 ghost use Rattle.figure.specs.Windows.{Proper};
 
@@ -18,7 +18,8 @@ use response::group::Window;
 use response::rule::ResponseRule;
 
 // Twice the area under the compensated response in a window. One pass over the samples, which asks
-// the rule once for each.
+// the rule once for each. The trace and the direction stand apart: the trace is cut at recovery on the
+// way here, and a struct of both would shorten no clause.
 fn area<R: ResponseRule>(
     trace: Trace,
     direction: Direction,
@@ -63,7 +64,7 @@ pub(crate) fn window_value<R: ResponseRule>(
     rule: &R,
 ) -> i64
     requires { (Proper window) × (BeginsBy (λ p. p.time) window.start (course direction trace.samples.now)) }
-    ensures { whole result ≡ value_of to_half_up (compensated_of to_half_up (R.ResponseRule.weighs rule.now) basis.disturbance (whole basis.base)) (course direction trace.entry.samples.now) window }
+    ensures { whole result ≡ value_of to_half_up (response_from (R.ResponseRule.weighs rule.now) basis) (course direction trace.entry.samples.now) window }
 {
     let sum = area(trace, direction, window, basis, rule);
     let length = window.end - window.start;

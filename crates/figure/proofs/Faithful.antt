@@ -57,7 +57,7 @@ module _ (a : Asked) (report : Report) (sound : Sound a.samples) (row : SoundRow
       }
 
   faithful_by : (why : Option Reason) → FirstFault (defects a recovery S) why → AnswerIs a recovery S why (Ok report) → Faithful a report
-  faithful_by (Some why) first answer = let z : ◌≡◌ {A = ℕ} 0 1 = cc in absurd (omega arith)
+  faithful_by (Some why) first answer = cc
   faithful_by None first (z, p, shifted, is, reports) = let e : p ≡ report = cc in faithful_at z shifted first (subst (Reports a recovery z) e reports)
 
 pub reports_are_faithful : ReportsAreFaithful

@@ -27,7 +27,7 @@ after_lower : (m l : ℕ) (ps : List Point) → l ≤ m → After m ps → After
 after_lower m l [] le h = tt
 after_lower m l (p ∷ ps) le h = (omega arith, h.1)
 
-after_rises : (t : ℕ) (ps : List Point) → After t ps → Rises ps
+pub after_rises : (t : ℕ) (ps : List Point) → After t ps → Rises ps
 after_rises t [] h = tt
 after_rises t (p ∷ ps) h = h.1
 

@@ -14,8 +14,8 @@ use Rattle.figure.specs.Defects.{NeverTriggered, AtShift, span_defects, window_d
 
 -- where there is a shift, a trigger is reached
 pub shift_triggers : (xs : List Sample) (d : Disturbance) (recovery : Option ℕ) (rate : ℕ) (trigger : Option Trigger) (S : Option ℕ) (z : ℤ) → TriggerTime xs d recovery trigger S → shift_of rate d.time trigger S ≡ Some z → NeverTriggered xs d recovery trigger → ⊥
-shift_triggers xs d recovery rate None S z times e never = let has = never.has in let n : ◌≡◌ {A = ℕ} 0 1 = cc in omega arith
-shift_triggers xs d recovery rate (Some g) None z times e never = let n : ◌≡◌ {A = ℕ} 0 1 = cc in omega arith
+shift_triggers xs d recovery rate None S z times e never = let has = never.has in cc
+shift_triggers xs d recovery rate (Some g) None z times e never = cc
 shift_triggers xs d recovery rate (Some g) (Some t) z times e never =
     let has = never.has in
     let same : g ≡ never.dip = cc in
@@ -27,9 +27,9 @@ at_shift o z P e never (y, f, p) = let same : y ≡ z = cc in never (subst P sam
 
 -- where there is none, none is
 pub no_shift : (xs : List Sample) (d : Disturbance) (recovery : Option ℕ) (rate : ℕ) (trigger : Option Trigger) (S : Option ℕ) → TriggerTime xs d recovery trigger S → shift_of rate d.time trigger S ≡ None → NeverTriggered xs d recovery trigger
-no_shift xs d recovery rate None S times e = let n : ◌≡◌ {A = ℕ} 0 1 = cc in absurd (omega arith)
+no_shift xs d recovery rate None S times e = cc
 no_shift xs d recovery rate (Some g) None times e = record { dip = g; has = refl; never = times }
-no_shift xs d recovery rate (Some g) (Some t) times e = let n : ◌≡◌ {A = ℕ} 0 1 = cc in absurd (omega arith)
+no_shift xs d recovery rate (Some g) (Some t) times e = cc
 
 module _ (a : Asked) (recovery S : Option ℕ) (times : TriggerTime a.samples a.disturbance recovery a.trigger S) where
   pub never_first : shift_in a S ≡ None → FirstFault (window_defects a recovery S) (Some NoTriggerTime)

@@ -20,7 +20,7 @@ NoneApply (f ∷ fs) = (f.Applies → ⊥) × NoneApply fs
 
 pub none_apply : {A : Type 0} (fs : List (Fault A)) → FirstFault fs None → NoneApply fs
 none_apply [] h = tt
-none_apply (f ∷ fs) (inl h) = let z : ◌≡◌ {A = ℕ} 0 1 = cc h.1 in absurd (omega arith)
+none_apply (f ∷ fs) (inl h) = absurd (cc h.1)
 none_apply (f ∷ fs) (inr h) = (h.0, none_apply fs h.1)
 
 -- ---- a window that stands: it starts before it ends, and both are times of the clock

@@ -6,7 +6,7 @@ use Rattle.std.proofs.lemmas.Bool.Decides.{not_from_Decides}
 use Rattle.recording.specs.declared.refusal.Reason.{Reason}
 use Rattle.recording.specs.declared.refusal.Reason.TheVariants.{OtherTargets, NoBaseSample, OutsideTargets}
 use Rattle.timeline.specs.declared.target.Target.{Target}
-use Rattle.timeline.specs.Checks.{Fault, FirstFault}
+use Rattle.timeline.specs.Checks.{FirstFault}
 use Rattle.timeline.specs.Orders.{Sound}
 use Rattle.timeline.specs.Targets.{targets}
 use Rattle.figure.specs.Defects.{BadAmount, WrongSide, BadTargets, MissedByTargets, defect, early_defects}

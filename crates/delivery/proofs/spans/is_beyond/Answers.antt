@@ -1,4 +1,4 @@
-use Rattle.std.proofs.Common.{◌-◌, ◌^◌, ◌<◌, length, pos, ◌<ℤ◌, sym, subst, inl, inr, arith, w64, SFits, rules}
+use Rattle.std.proofs.Common.{◌-◌, ◌^◌, ◌<◌, length, pos, ◌<ℤ◌, sym, subst, inl, inr, w64, SFits, rules}
 use Rattle.std.proofs.lemmas.Int.{to_z-of_z, to_z_pos}
 use Rattle.std.proofs.lemmas.Bool.Decides.{not_from_Decides}
 use Rattle.recording.specs.declared.sample.Sample.{Sample}
