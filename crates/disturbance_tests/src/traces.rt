@@ -27,6 +27,7 @@ pub(crate) fn record_a() -> [Sample; 4] {
     ]
 }
 
+// Two names in place of a parameter, so that an example says its side in one word.
 pub(crate) fn low(time: u32) -> Disturbance {
     Disturbance {
         time,
