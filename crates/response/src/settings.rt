@@ -8,7 +8,7 @@ use crate::setup::{Rate, Response, Trigger};
 use recording::refusal::Refusal;
 
 // Settings as an owner asks for them, not yet held against their limits.
-#[derive(Clone, Copy, Debug, PartialEq, Eq)]
+#[derive(Clone, Copy)]
 pub struct Proposal {
     pub rate: u32,
     pub reference_dip: u32,

@@ -12,24 +12,24 @@ const UNKNOWN: Refusal = Refusal {
     position: 0,
 };
 
-// The code stands for the service, which is shown as that code and has the side and the widest
-// window end.
-fn known(rt: &impl Abort, code: &str, service: Service, side: Side, end: u32) {
+// The code stands for the service, which has that code, the side, the group and the widest window end.
+fn known(rt: &impl Abort, code: &str, service: Service, side: Side, group: Group, end: u32) {
     assert_eq!(rt; Service::from_code(code), Ok(service));
     assert_eq!(rt; code.parse::<Service>(), Ok(service));
     assert_eq!(rt; service.code(), code);
     assert_eq!(rt; service.side(), side);
+    assert_eq!(rt; service.group(), group);
     assert_eq!(rt; service.group().row().second.end, end);
 }
 
 #[test]
 fn every_code(rt: HostRuntime) {
-    known(&rt, "R6", Service::R6, Side::Raise, 60_000);
-    known(&rt, "R60", Service::R60, Side::Raise, 300_000);
-    known(&rt, "R5", Service::R5, Side::Raise, 900_000);
-    known(&rt, "L6", Service::L6, Side::Lower, 60_000);
-    known(&rt, "L60", Service::L60, Side::Lower, 300_000);
-    known(&rt, "L5", Service::L5, Side::Lower, 900_000);
+    known(&rt, "R6", Service::R6, Side::Raise, Group::Fast, 60_000);
+    known(&rt, "R60", Service::R60, Side::Raise, Group::Slow, 300_000);
+    known(&rt, "R5", Service::R5, Side::Raise, Group::Delayed, 900_000);
+    known(&rt, "L6", Service::L6, Side::Lower, Group::Fast, 60_000);
+    known(&rt, "L60", Service::L60, Side::Lower, Group::Slow, 300_000);
+    known(&rt, "L5", Service::L5, Side::Lower, Group::Delayed, 900_000);
 }
 
 #[test]
