@@ -4,6 +4,7 @@ use recording::refusal::{Reason, Refusal};
 use response::group::{Group, Row, Window};
 use response::service::{Service, Side};
 use std::process::Abort;
+use std::test::Fail;
 
 // What is answered to a text that is no service's code.
 const UNKNOWN: Refusal = Refusal {
@@ -36,6 +37,14 @@ fn every_code(rt: HostRuntime) {
 fn raise_is_for_low_disturbances_and_lower_for_high_ones(rt: HostRuntime) {
     assert_eq!(rt; Side::Raise.direction(), Direction::Low);
     assert_eq!(rt; Side::Lower.direction(), Direction::High);
+}
+
+#[test]
+fn a_service_is_shown_as_its_code(rt: HostRuntime) -> Result<(), Fail> {
+    let service = Service::L60;
+    let shown = format!(in rt.alloc(); "{service}")?;
+    assert_eq!(rt; shown.as_str(), "L60");
+    Ok(())
 }
 
 #[test]
