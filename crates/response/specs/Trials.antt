@@ -11,11 +11,6 @@ pub record Tried {X : Type 0} (task : Settings → Result X Refusal) (s : Settin
   pub refused : (IsBase begin end → ⊥) → r ≡ Err outside
   pub done : (w : BaseWindow) → w.begin ≡ begin → w.end ≡ end → r ≡ task (with_base s w)
 
--- the first answer that is no refusal, else the second answer
-abbrev pub first_of : {X : Type 0} → Result X Refusal → Result X Refusal → Result X Refusal
-first_of (Ok x) second = Ok x
-first_of (Err e) second = second
-
 -- both answers, or the first refusal
 abbrev pub both_of : {X : Type 0} → Result X Refusal → Result X Refusal → Result (X × X) Refusal
 both_of (Ok x) (Ok y) = Ok (x, y)

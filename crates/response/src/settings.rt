@@ -8,7 +8,7 @@ use crate::setup::{Rate, Response, Trigger};
 use recording::refusal::Refusal;
 
 // Settings as an owner asks for them, not yet held against their limits.
-#[derive(Clone, Copy, Debug, PartialEq, Eq)]
+#[derive(Clone, Copy)]
 pub struct Proposal {
     pub rate: u32,
     pub reference_dip: u32,
@@ -26,7 +26,8 @@ pub struct Settings {
 }
 
 impl Settings {
-    // The settings that are asked for, which are refused if any is outside its limits.
+    // The settings that are asked for, which are refused if any is outside its limits. A constructor, as each
+    // part has one: a `TryFrom` would be the same under another name.
     pub fn new(proposal: Proposal) -> Result<Settings, Refusal>
         ensures { Granted result (Allowed proposal) (λ s. numbers_of s ≡ proposal) }
     {

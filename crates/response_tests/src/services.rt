@@ -4,6 +4,7 @@ use recording::refusal::{Reason, Refusal};
 use response::group::{Group, Row, Window};
 use response::service::{Service, Side};
 use std::process::Abort;
+use std::test::Fail;
 
 // What is answered to a text that is no service's code.
 const UNKNOWN: Refusal = Refusal {
@@ -12,30 +13,38 @@ const UNKNOWN: Refusal = Refusal {
     position: 0,
 };
 
-// The code stands for the service, which is shown as that code and has the side and the widest
-// window end.
-fn known(rt: &impl Abort, code: &str, service: Service, side: Side, end: u32) {
+// The code stands for the service, which has that code, the side, the group and the widest window end.
+fn known(rt: &impl Abort, code: &str, service: Service, side: Side, group: Group, end: u32) {
     assert_eq!(rt; Service::from_code(code), Ok(service));
     assert_eq!(rt; code.parse::<Service>(), Ok(service));
     assert_eq!(rt; service.code(), code);
     assert_eq!(rt; service.side(), side);
+    assert_eq!(rt; service.group(), group);
     assert_eq!(rt; service.group().row().second.end, end);
 }
 
 #[test]
 fn every_code(rt: HostRuntime) {
-    known(&rt, "R6", Service::R6, Side::Raise, 60_000);
-    known(&rt, "R60", Service::R60, Side::Raise, 300_000);
-    known(&rt, "R5", Service::R5, Side::Raise, 900_000);
-    known(&rt, "L6", Service::L6, Side::Lower, 60_000);
-    known(&rt, "L60", Service::L60, Side::Lower, 300_000);
-    known(&rt, "L5", Service::L5, Side::Lower, 900_000);
+    known(&rt, "R6", Service::R6, Side::Raise, Group::Fast, 60_000);
+    known(&rt, "R60", Service::R60, Side::Raise, Group::Slow, 300_000);
+    known(&rt, "R5", Service::R5, Side::Raise, Group::Delayed, 900_000);
+    known(&rt, "L6", Service::L6, Side::Lower, Group::Fast, 60_000);
+    known(&rt, "L60", Service::L60, Side::Lower, Group::Slow, 300_000);
+    known(&rt, "L5", Service::L5, Side::Lower, Group::Delayed, 900_000);
 }
 
 #[test]
 fn raise_is_for_low_disturbances_and_lower_for_high_ones(rt: HostRuntime) {
     assert_eq!(rt; Side::Raise.direction(), Direction::Low);
     assert_eq!(rt; Side::Lower.direction(), Direction::High);
+}
+
+#[test]
+fn a_service_is_shown_as_its_code(rt: HostRuntime) -> Result<(), Fail> {
+    let service = Service::L60;
+    let shown = format!(in rt.alloc(); "{service}")?;
+    assert_eq!(rt; shown.as_str(), "L60");
+    Ok(())
 }
 
 #[test]
