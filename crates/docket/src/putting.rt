@@ -1,4 +1,6 @@
 // A reading put at the end of the counted samples of a table, or in the place of one.
+// The caller's table and the docket's count beside it are handed on as they are: a `Timeline` of both
+// would be made at each call only to be taken apart.
 ghost use Rattle.docket.specs.Dockets.{PutsReading, AmendsReading};
 
 use recording::reading::Reading;

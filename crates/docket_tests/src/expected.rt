@@ -32,15 +32,15 @@ pub(crate) fn counts(rt: &impl Abort, answer: Result<usize, Refusal>, count: usi
 
 // What a refusal tells, in plain numbers.
 #[derive(Clone, Copy, Debug, PartialEq)]
-pub(crate) struct Told {
+pub(crate) struct Facts {
     number: u8,
     place: usize,
     position: usize,
     field: u8,
 }
 
-pub(crate) fn told(refusal: Refusal) -> Told {
-    Told {
+pub(crate) fn told(refusal: Refusal) -> Facts {
+    Facts {
         number: refusal.number(),
         place: refusal.place,
         position: refusal.position,
@@ -49,8 +49,8 @@ pub(crate) fn told(refusal: Refusal) -> Told {
 }
 
 // What a refusal tells that names no byte and no field.
-pub(crate) fn plain(number: u8, place: usize) -> Told {
-    Told {
+pub(crate) fn plain(number: u8, place: usize) -> Facts {
+    Facts {
         number,
         place,
         position: 0,
@@ -72,7 +72,7 @@ pub(crate) fn refused_in(
     position: usize,
     field: u8,
 ) {
-    let expected = Told {
+    let expected = Facts {
         number,
         place,
         position,

@@ -17,7 +17,8 @@ pub trait Entry {
     fn time(&self) -> u32
         ensures { result ≡ kind.time self.now };
 
-    // The first field that is outside its limits.
+    // The first field that is outside its limits, if one is. A question: soundness asks it too, where
+    // nothing is refused.
     fn outside(&self) -> Option<Field>
         ensures { result ≡ kind.outside self.now };
 }

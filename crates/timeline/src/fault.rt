@@ -1,4 +1,6 @@
 // What sends a call on a timeline back: the first in the checking order that applies.
+// The table and the count beside it come apart, since a `Timeline` holds its table to be written, and
+// these only read.
 ghost use Rattle.std.specs.Prelude.{◌≡◌};
 ghost use Rattle.timeline.specs.Checks.{Allows};
 ghost use Rattle.timeline.specs.Faults.{put_checks, amend_checks, strike_checks};
