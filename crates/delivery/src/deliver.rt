@@ -67,14 +67,7 @@ fn deliver_over<R: ResponseRule>(
     let spans = Spans { first, second };
     span_defect(trace, terms.row.widest_gap, spans)?;
     let from = basis(ground, counted);
-    let found = window_values(
-        trace,
-        disturbance.direction,
-        restored,
-        spans,
-        from,
-        rule,
-    );
+    let found = window_values(trace, disturbance.direction, restored, spans, from, rule);
     Ok(judged(time, restored, found, terms))
 }
 

@@ -53,10 +53,7 @@ impl Ground<'_> {
         ensures { Decides result ((0 < length targets.entry.all.now) × (OneMissed targets.entry.all.now (points_on self.entry))) }
     {
         let direction = self.disturbance.direction;
-        self.trace
-            .samples
-            .iter()
-            .any(|sample| self.has_missed(targets, turned(direction, *sample)))
+        self.trace.samples.iter().any(|sample| self.has_missed(targets, turned(direction, *sample)))
     }
 
     // Whether, with targets, the disturbance or a base sample is at such a time.

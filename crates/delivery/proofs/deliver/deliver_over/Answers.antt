@@ -1,4 +1,4 @@
-use Rattle.std.proofs.Common.{◌≡◌, ℕ, ◌-◌, ◌<◌, ◌≤◌, List, length, take, sym, ◌∙◌, subst, inl, inr, arith, w64, SFits, rules}
+use Rattle.std.proofs.Common.{ℕ, ◌≤◌, List, sym, ◌∙◌, subst, inl, inr, w64, SFits, rules}
 use Rattle.std.proofs.lemmas.Int.{to_z-of_z}
 use Rattle.figure.specs.declared.span.Span.{Span}
 use Rattle.figure.specs.Defects.{MissedByTargets, early_defects, span_defects}
