@@ -2,7 +2,7 @@
 ghost use Rattle.std.specs.Prelude.{◌≡◌, ◌<◌, true, [], length, Decides};
 ghost use Rattle.figure.specs.Steps.{is_base};
 ghost use Rattle.figure.specs.Defects.{Missed, OneMissed, MissedByTargets};
-ghost use Rattle.delivery.specs.Grounds.{points_on};
+ghost use Rattle.delivery.specs.Footings.{points_on};
 
 use crate::points::turned;
 use crate::targets::Targets;
@@ -13,13 +13,13 @@ use response::base::BaseWindow;
 
 // A trace, as its disturbance turns it, and the base window before the disturbance.
 #[derive(Clone, Copy)]
-pub(crate) struct Ground<'a> {
+pub(crate) struct Footing<'a> {
     pub(crate) trace: Trace<'a>,
     pub(crate) disturbance: Disturbance,
     pub(crate) window: BaseWindow,
 }
 
-impl Ground<'_> {
+impl Footing<'_> {
     // Whether a point counts for the base. Both edges are inside.
     pub(crate) fn counts(self, point: Point) -> bool
         ensures { result ≡ is_base self.entry.disturbance.time self.entry.window point }
