@@ -60,6 +60,6 @@ impl Footing<'_> {
     pub(crate) fn is_missed(self, targets: Targets) -> bool
         ensures { Decides result (MissedByTargets targets.entry.all.now self.entry.disturbance.time (points_on self.entry)) }
     {
-        targets.miss(self.disturbance.time) || self.misses_one(targets)
+        !targets.all.is_empty() && (targets.miss(self.disturbance.time) || self.misses_one(targets))
     }
 }
