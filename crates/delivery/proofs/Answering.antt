@@ -1,5 +1,5 @@
 -- From what the parts of the code answer to the answer to what is asked.
-use Rattle.std.proofs.Common.{◌≡◌, ℕ, ◌-◌, List, take, ℤ, IfOk, Some, None, Ok, Err, Option, Result, sym, refl, ap, ◌∙◌, subst, arith}
+use Rattle.std.proofs.Common.{◌≡◌, ℕ, List, take, ℤ, IfOk, Some, None, Ok, Err, Option, Result, sym, refl, ap, ◌∙◌, subst}
 use Rattle.std.specs.Option.{ok_or}
 use Rattle.std.specs.Result.{IsErrAnd}
 use Rattle.exact.specs.Fractions.{Fraction, whole}

@@ -1,12 +1,12 @@
 -- The points of a record place by place, and in order of their times.
-use Rattle.std.proofs.Common.{◌≡◌, ℕ, zero, suc, ◌+◌, ◌<◌, ◌≤◌, List, [], ◌∷◌, length, get_or, take, drop, sym, ap, ◌∙◌, subst, arith}
+use Rattle.std.proofs.Common.{◌≡◌, ℕ, ◌+◌, ◌<◌, ◌≤◌, List, [], ◌∷◌, length, get_or, drop, sym, ap, ◌∙◌, subst, arith}
 use Rattle.std.specs.List.{AllByRecursion}
 use Rattle.std.proofs.lemmas.List.{length-map, get_or-map, drop_more}
 use Rattle.std.proofs.ByRecursion.{All-get_or, All-weaker}
 use Rattle.recording.specs.declared.sample.Sample.{Sample}
 use Rattle.disturbance.specs.declared.direction.Direction.{Direction}
 use Rattle.figure.specs.declared.point.Point.{Point}
-use Rattle.figure.specs.Points.{turned, course, origin, After, Rises}
+use Rattle.figure.specs.Points.{turned, course, origin, After}
 use Rattle.delivery.specs.Limits.{BeginsBy}
 
 -- ---- the point p is the sample at place i, turned

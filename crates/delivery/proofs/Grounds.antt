@@ -1,16 +1,14 @@
 -- Where no early defect applies: what the base asks of the targets.
-use Rattle.std.proofs.Common.{◌≡◌, ℕ, ◌<◌, List, [], ◌∷◌, length, get_or, take, subst, refl, inl, inr, arith}
+use Rattle.std.proofs.Common.{◌≡◌, ℕ, ◌<◌, List, [], ◌∷◌, length, get_or, subst, refl, inl, inr, arith}
 use Rattle.std.specs.List.{AllByRecursion}
-use Rattle.std.proofs.ByRecursion.{All-from_get_or, All-get_or}
+use Rattle.std.proofs.ByRecursion.{All-from_get_or}
 use Rattle.std.proofs.lemmas.List.{get_or_default}
 use Rattle.std.proofs.lemmas.Bool.{cases_lt}
 use Rattle.timeline.specs.declared.target.Target.{Target}
-use Rattle.timeline.specs.Orders.{Sound}
-use Rattle.timeline.specs.Targets.{targets}
 use Rattle.figure.specs.declared.point.Point.{Point}
 use Rattle.figure.specs.Points.{origin}
 use Rattle.figure.specs.Defects.{Missed, MissedByTargets}
-use Rattle.delivery.specs.Limits.{Aimed, BeginsBy, RisingTargets, no_target}
+use Rattle.delivery.specs.Limits.{BeginsBy, RisingTargets, no_target}
 use Rattle.delivery.proofs.Ends.{all_up}
 
 -- targets that rise and do not miss a time begin by it

@@ -1,27 +1,17 @@
 -- What a sound trace gives: points within their limits and in order.
-use Rattle.std.proofs.Common.{◌≡◌, ℕ, suc, ◌+◌, ◌<◌, ◌≤◌, Bool, true, false, cond, ◌||◌, ltb, List, [], ◌∷◌, length, get_or, take, pos, neg_ℤ, Some, None, Option, refl, subst, inl, inr, arith}
-use lib.Signed.{lt_z}
+use Rattle.std.proofs.Common.{ℕ, ◌≤◌, List, arith}
 use borrow.Author.Differences.{ints}
-use Rattle.std.specs.List.{AllByRecursion}
-use Rattle.std.proofs.lemmas.List.{take-map}
-use Rattle.std.proofs.ByRecursion.{All-from_get_or, All-map, All-take, All-weaker}
-use Rattle.std.proofs.lemmas.Bool.{ltb-false, cases_lt}
+use Rattle.std.proofs.ByRecursion.{All-from_get_or, All-map, All-weaker}
 use Rattle.exact.specs.Limits.{Within}
 use Rattle.exact.proofs.Limits.{within_in}
 use Rattle.recording.specs.declared.sample.Sample.{Sample}
-use Rattle.recording.specs.declared.refusal.Field.{Field}
-use Rattle.recording.specs.declared.refusal.Field.TheVariants.{Time, Power}
-use Rattle.recording.specs.Samples.{latest, greatest_power}
 use Rattle.disturbance.specs.declared.direction.Direction.{Direction}
 use Rattle.disturbance.specs.declared.direction.Direction.TheVariants.{Low, High}
 use Rattle.disturbance.specs.Direction.{dip}
-use Rattle.disturbance.specs.Trace.{at, Rising, Within as Limits, Sound as SoundTrace}
-use Rattle.timeline.specs.declared.target.Target.{Target}
-use Rattle.timeline.specs.Targets.{targets}
-use Rattle.timeline.specs.Orders.{Ordered, Sound}
+use Rattle.disturbance.specs.Trace.{Within as Limits, Sound as SoundTrace}
 use Rattle.figure.specs.Points.{turned, course}
 use Rattle.figure.proofs.Rising.{rises_course}
-use Rattle.delivery.specs.Limits.{Tame, Usable, Aimed, BeginsBy}
+use Rattle.delivery.specs.Limits.{Tame, Usable}
 use Rattle.delivery.proofs.Basing.{turned_within}
 
 -- ---- points

@@ -1,4 +1,4 @@
 pub mod Limits
 pub mod Areas
 pub mod Filling
-pub mod Grounds
+pub mod Footings

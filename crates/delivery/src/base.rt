@@ -7,10 +7,10 @@ ghost use Rattle.figure.specs.Points.{course};
 ghost use Rattle.figure.specs.Steps.{trajectory as trajectory_of, base_push, base_of, to_half_up};
 ghost use Rattle.figure.specs.Defects.{MissedByTargets};
 ghost use Rattle.delivery.specs.Limits.{BeginsBy};
-ghost use Rattle.delivery.specs.Grounds.{points_on};
+ghost use Rattle.delivery.specs.Footings.{points_on};
 
 use crate::basis::Basis;
-use crate::ground::Ground;
+use crate::footing::Footing;
 use crate::points::turned;
 use crate::rounding::{half_up, straight_half_up};
 use crate::targets::Targets;
@@ -63,24 +63,24 @@ fn base_push(point: Point, targets: Targets, disturbance: Disturbance) -> i128
 
 // What responses are counted from: the base is half-up of the mean of the base pushes. One pass over
 // the samples.
-pub(crate) fn basis(ground: Ground, targets: Targets) -> Basis
-    requires some { points_on ground ≡ [] → ⊥ }
-    requires reached { MissedByTargets targets.all.now ground.disturbance.time (points_on ground) → ⊥ }
-    ensures time { result.disturbance ≡ ground.entry.disturbance.time }
-    ensures base { whole result.base ≡ base_of to_half_up ground.entry.disturbance.direction targets.entry.all.now ground.entry.disturbance.time ground.entry.window (course ground.entry.disturbance.direction ground.entry.trace.samples.now) }
+pub(crate) fn basis(footing: Footing, targets: Targets) -> Basis
+    requires some { points_on footing ≡ [] → ⊥ }
+    requires reached { MissedByTargets targets.all.now footing.disturbance.time (points_on footing) → ⊥ }
+    ensures time { result.disturbance ≡ footing.entry.disturbance.time }
+    ensures base { whole result.base ≡ base_of to_half_up footing.entry.disturbance.direction targets.entry.all.now footing.entry.disturbance.time footing.entry.window (course footing.entry.disturbance.direction footing.entry.trace.samples.now) }
 {
     let mut sum: i128 = 0;
     let mut count: u64 = 0;
-    for sample in ground.trace.samples {
-        let point = turned(ground.disturbance.direction, *sample);
-        if !ground.counts(point) {
+    for sample in footing.trace.samples {
+        let point = turned(footing.disturbance.direction, *sample);
+        if !footing.counts(point) {
             continue;
         }
-        sum += base_push(point, targets, ground.disturbance);
+        sum += base_push(point, targets, footing.disturbance);
         count += 1;
     }
     Basis {
-        disturbance: ground.disturbance.time,
+        disturbance: footing.disturbance.time,
         base: half_up(sum, count),
     }
 }

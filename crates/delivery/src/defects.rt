@@ -4,8 +4,8 @@ ghost use Rattle.std.specs.Result.{result_err};
 ghost use Rattle.timeline.specs.Checks.{FirstFault};
 ghost use Rattle.figure.specs.Defects.{BadAmount, WrongSide, Beyond, early_defects, span_defects};
 
+use crate::footing::Footing;
 use crate::gaps::is_gapped;
-use crate::ground::Ground;
 use crate::spans::{Spans, is_beyond, is_empty};
 use crate::targets::{Targets, counted};
 use crate::terms::Terms;
@@ -34,25 +34,25 @@ fn is_wrong_side(side: Side, direction: Direction) -> bool
 
 // The first defect that asks nothing of recovery and windows; without one, the counted targets.
 pub(crate) fn early_defect<'a>(
-    ground: Ground,
+    footing: Footing,
     table: &'a [Target],
     count: usize,
     terms: Terms,
 ) -> Result<Targets<'a>, Reason>
-    ensures defect { FirstFault (early_defects ground.entry.trace.samples.now ground.entry.disturbance ground.entry.window table.now count terms.side terms.enabled) (result_err result) }
+    ensures defect { FirstFault (early_defects footing.entry.trace.samples.now footing.entry.disturbance footing.entry.window table.now count terms.side terms.enabled) (result_err result) }
     ensures counted { IfOk result (λ targets. targets.all.now ≡ take count table.now) }
 {
     if is_bad_amount(terms.enabled) {
         return Err(Reason::AmountOutside);
     }
-    if is_wrong_side(terms.side, ground.disturbance.direction) {
+    if is_wrong_side(terms.side, footing.disturbance.direction) {
         return Err(Reason::OtherDirection);
     }
     let targets = counted(table, count)?;
-    if ground.lacks_base() {
+    if footing.lacks_base() {
         return Err(Reason::NoBaseSample);
     }
-    if ground.is_missed(targets) {
+    if footing.is_missed(targets) {
         return Err(Reason::OutsideTargets);
     }
     Ok(targets)

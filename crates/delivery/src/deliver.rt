@@ -9,7 +9,7 @@ ghost use Rattle.figure.specs.Reports.{Delivers};
 
 use crate::base::basis;
 use crate::defects::{early_defect, span_defect};
-use crate::ground::Ground;
+use crate::footing::Footing;
 use crate::judging::judged;
 use crate::shift::shift;
 use crate::spans::{Spans, placed};
@@ -54,27 +54,20 @@ fn deliver_over<R: ResponseRule>(
     let restored = recovery(trace, disturbance);
     let trigger = rule.trigger();
     let triggered = reached(trace, disturbance, restored, trigger);
-    let ground = Ground {
+    let footing = Footing {
         trace,
         disturbance,
         window: settings.base(),
     };
-    let counted = early_defect(ground, targets, count, terms)?;
+    let counted = early_defect(footing, targets, count, terms)?;
     let time = disturbance.time;
     let by = shift(settings.response.rate, time, trigger, triggered).ok_or(Reason::NoTriggerTime)?;
     let first = placed(time, by, restored, terms.row.first);
     let second = placed(time, by, restored, terms.row.second);
     let spans = Spans { first, second };
     span_defect(trace, terms.row.widest_gap, spans)?;
-    let from = basis(ground, counted);
-    let found = window_values(
-        trace,
-        disturbance.direction,
-        restored,
-        spans,
-        from,
-        rule,
-    );
+    let from = basis(footing, counted);
+    let found = window_values(trace, disturbance.direction, restored, spans, from, rule);
     Ok(judged(time, restored, found, terms))
 }
 

@@ -23,9 +23,7 @@ pub(crate) fn turned(direction: Direction, sample: Sample) -> Point
 fn before(trace: Trace<'_>, time: u32) -> Trace<'_>
     ensures { (d : _) → course d result.samples.now ≡ used_points (Some time) (course d trace.entry.samples.now) }
 {
-    let count = trace
-        .samples
-        .partition_point(|sample| sample.time < time);
+    let count = trace.samples.partition_point(|sample| sample.time < time);
     Trace {
         samples: &trace.samples[0..count],
     }

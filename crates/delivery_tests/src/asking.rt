@@ -168,6 +168,9 @@ pub(crate) fn refuses(
 ) -> Result<(), Fail> {
     let refusal = answer?.err().ok_or("a refusal was expected")?;
     assert_eq!(rt; refusal.number(), number);
-    assert_eq!(rt; (refusal.place, refusal.position, refusal.field()), (0, 0, 0));
+    assert_eq!(rt;
+        (refusal.place, refusal.position, refusal.field()),
+        (0, 0, 0)
+    );
     Ok(())
 }

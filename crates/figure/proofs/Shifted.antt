@@ -1,5 +1,5 @@
 -- The shift, and the defects of the windows at it.
-use Rattle.std.proofs.Common.{◌≡◌, ℕ, List, ℤ, Some, None, Option, refl, subst, inl, inr, arith}
+use Rattle.std.proofs.Common.{◌≡◌, ℕ, List, ℤ, Some, None, Option, refl, subst, inl, inr}
 use Rattle.recording.specs.declared.refusal.Reason.{Reason}
 use Rattle.recording.specs.declared.refusal.Reason.TheVariants.{NoTriggerTime}
 use Rattle.recording.specs.declared.sample.Sample.{Sample}

@@ -66,18 +66,7 @@ pub record AlikeBefore (recovery : Option ℕ) (s t : Sample) : Type 0 where
   pub power : Before recovery s.time → s.power ≡ t.power
 
 abbrev pub with_samples : Asked → List Sample → Asked
-with_samples a xs = record {
-  samples = xs;
-  disturbance = a.disturbance;
-  settings = a.settings;
-  trigger = a.trigger;
-  weight = a.weight;
-  table = a.table;
-  count = a.count;
-  side = a.side;
-  row = a.row;
-  amount = a.amount;
-}
+with_samples a xs = record a { samples = xs }
 
 -- the powers of the samples at or after recovery can be changed at will, and every report and refusal stays
 abbrev pub PowerAfterRecovery : Type 0

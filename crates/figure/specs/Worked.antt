@@ -1,6 +1,6 @@
 -- Worked deliveries on the four samples of the worked record.
 use Rattle.std.specs.Prelude.{◌≡◌, ℕ, [], pos, Some, None, Ok, Err, Option}
-use Rattle.std.proofs.Common.{arith}
+use Rattle.std.proofs.Common.{lit≤}
 use Rattle.recording.specs.declared.refusal.Reason.TheVariants.{WideGap}
 use Rattle.recording.specs.Refusals.{refusal}
 use Rattle.disturbance.specs.Worked.{record_a, disturbance_a}
@@ -38,7 +38,7 @@ abbrev pub once : Weights
 once dip offset = one
 
 abbrev pub twice : Weights
-twice dip offset = record { n = 2; d = 1; above = omega arith; least = omega arith; most = omega arith }
+twice dip offset = record { n = 2; d = 1; above = lit≤ tt; least = lit≤ tt; most = lit≤ tt }
 
 pub record WorkedDeliveries : Type 0 where
   -- plain settings, variable rule: 1,360 W

@@ -16,8 +16,8 @@ loop-sample-preserved-then-not-counts c = passed c.loop-sample.invariant c.loop-
 
 pub base_push-sum-requires : goal.base_push-sum-requires
 base_push-sum-requires c =
-    let trace = c.args.ground.trace in
-    let d = c.args.ground.disturbance.direction in
+    let trace = c.args.footing.trace in
+    let d = c.args.footing.disturbance.direction in
     record {
       small = (holds_at d trace.samples.now c.loop-sample.sample-index c.loop-sample-test.true _ c.turned-point.result c.turned-point.ensures Tame (usable d trace.samples.now trace.sound).tame).push_within;
       begins = (at_disturbance c.args.targets.all.now c.args.targets.rising _ _ c.requires.reached, this c.loop-sample.invariant c.loop-sample-test.true _ c.turned-point.ensures c.if-not-counts.ensures);

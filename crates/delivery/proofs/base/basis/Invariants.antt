@@ -3,4 +3,4 @@ use Rattle.delivery.proofs.Basing.{Added}
 use Rattle.delivery.proofs.base.basis.Given as goal
 
 abbrev pub invariant-loop-sample : goal.invariant-loop-sample
-invariant-loop-sample l = Added l.ground.disturbance l.ground.window l.targets.all.now l.ground.trace.samples.now l.sample-index l.count l.sum
+invariant-loop-sample l = Added l.footing.disturbance l.footing.window l.targets.all.now l.footing.trace.samples.now l.sample-index l.count l.sum

@@ -10,10 +10,10 @@ use Rattle.timeline.specs.Checks.{FirstFault}
 use Rattle.timeline.specs.Orders.{Sound}
 use Rattle.timeline.specs.Targets.{targets}
 use Rattle.figure.specs.Defects.{BadAmount, WrongSide, BadTargets, MissedByTargets, defect, early_defects}
-use Rattle.delivery.specs.declared.ground.Ground.{Ground}
+use Rattle.delivery.specs.declared.footing.Footing.{Footing}
 use Rattle.delivery.specs.declared.targets.Targets.{Targets}
 use Rattle.delivery.specs.declared.terms.Terms.{Terms}
-use Rattle.delivery.specs.Grounds.{points_on}
+use Rattle.delivery.specs.Footings.{points_on}
 use Rattle.delivery.proofs.defects.early_defect.Goals as goal
 
 err_is : {T : Type 0} (r : Result T Reason) (why : Reason) → IsErrAnd r (λ e. e ≡ why) → result_err r ≡ Some why
@@ -25,7 +25,7 @@ none_found (Ok x) P Q e = absurd e
 none_found (Err f) P Q e = tt
 
 -- the amount and the side have been passed
-module _ (g : Ground) (table : List Target) (count : ℕ) (terms : Terms) (fits : SFits w64 terms.enabled) (amount : Decides false (BadAmount (to_z w64 (of_z w64 terms.enabled)))) (side : Decides false (WrongSide terms.side g.disturbance.direction)) where
+module _ (g : Footing) (table : List Target) (count : ℕ) (terms : Terms) (fits : SFits w64 terms.enabled) (amount : Decides false (BadAmount (to_z w64 (of_z w64 terms.enabled)))) (side : Decides false (WrongSide terms.side g.disturbance.direction)) where
   abbrev found : Option Reason → Type 0
   found r = FirstFault (early_defects g.trace.samples.now g.disturbance g.window table count terms.side terms.enabled) r
 
@@ -40,7 +40,7 @@ returns-in_err-targets c =
     let z : SFits w64 c.args.terms.enabled = search rules in
     let e = err_is _ _ c.from_residual.ensures.1 ∙ ap (λ (w : Reason). Some w) c.in_err-targets.ensures.1 in
     record {
-      defect = two c.args.ground c.args.table.now c.args.count c.args.terms z c.if-is_bad_amount.ensures c.if-is_wrong_side.ensures _ (inl (c.in_err-targets.ensures.0, e));
+      defect = two c.args.footing c.args.table.now c.args.count c.args.terms z c.if-is_bad_amount.ensures c.if-is_wrong_side.ensures _ (inl (c.in_err-targets.ensures.0, e));
       counted = none_found {T = Targets} c.from_residual.result (λ gs. gs.all.now ≡ take c.args.count c.args.table.now) (λ e. e ≡ c.in_err-targets.field-0.0) c.from_residual.ensures.1;
     }
 
@@ -48,7 +48,7 @@ pub returns-then-is_missed : goal.returns-then-is_missed
 returns-then-is_missed c =
     let z : SFits w64 c.args.terms.enabled = search rules in
     record {
-      defect = four c.args.ground c.args.table.now c.args.count c.args.terms z c.if-is_bad_amount.ensures c.if-is_wrong_side.ensures c.in_ok-targets.ensures.0 c.if-lacks_base.ensures _ c.in_ok-targets.ensures.1 _ (inl (c.if-is_missed.ensures.0 refl, refl));
+      defect = four c.args.footing c.args.table.now c.args.count c.args.terms z c.if-is_bad_amount.ensures c.if-is_wrong_side.ensures c.in_ok-targets.ensures.0 c.if-lacks_base.ensures _ c.in_ok-targets.ensures.1 _ (inl (c.if-is_missed.ensures.0 refl, refl));
       counted = tt;
     }
 
@@ -56,6 +56,6 @@ pub returns : goal.returns
 returns c =
     let z : SFits w64 c.args.terms.enabled = search rules in
     record {
-      defect = four c.args.ground c.args.table.now c.args.count c.args.terms z c.if-is_bad_amount.ensures c.if-is_wrong_side.ensures c.in_ok-targets.ensures.0 c.if-lacks_base.ensures _ c.in_ok-targets.ensures.1 _ (inr (not_from_Decides false c.if-is_missed.ensures refl, refl));
+      defect = four c.args.footing c.args.table.now c.args.count c.args.terms z c.if-is_bad_amount.ensures c.if-is_wrong_side.ensures c.in_ok-targets.ensures.0 c.if-lacks_base.ensures _ c.in_ok-targets.ensures.1 _ (inr (not_from_Decides false c.if-is_missed.ensures refl, refl));
       counted = c.in_ok-targets.ensures.1;
     }

@@ -1,10 +1,10 @@
-use Rattle.std.proofs.Common.{◌≡◌, ℕ, ◌-◌, ◌<◌, ◌≤◌, List, length, take, sym, ◌∙◌, subst, inl, inr, arith, w64, SFits, rules}
+use Rattle.std.proofs.Common.{ℕ, ◌≤◌, List, sym, ◌∙◌, subst, inl, inr, w64, SFits, rules}
 use Rattle.std.proofs.lemmas.Int.{to_z-of_z}
 use Rattle.figure.specs.declared.span.Span.{Span}
 use Rattle.figure.specs.Defects.{MissedByTargets, early_defects, span_defects}
 use Rattle.figure.proofs.Standing.{none_apply}
-use Rattle.delivery.specs.declared.ground.Ground.{Ground}
-use Rattle.delivery.specs.Grounds.{points_on}
+use Rattle.delivery.specs.declared.footing.Footing.{Footing}
+use Rattle.delivery.specs.Footings.{points_on}
 use Rattle.recording.specs.declared.sample.Sample.{Sample}
 use Rattle.timeline.specs.declared.target.Target.{Target}
 use Rattle.disturbance.specs.declared.disturbance.Disturbance.{Disturbance}
@@ -39,9 +39,9 @@ returns-in_err-span_defect g c =
 
 pub basis-from-requires : goal.basis-from-requires
 basis-from-requires g c =
-    let ground : Ground = record { trace = c.args.trace; disturbance = c.args.disturbance; window = c.base.result } in
+    let footing : Footing = record { trace = c.args.trace; disturbance = c.args.disturbance; window = c.base.result } in
     let none = none_apply (early_defects c.args.trace.samples.now c.args.disturbance c.base.result c.args.targets.now c.args.count c.args.terms.side c.args.terms.enabled) c.in_ok-counted.ensures.defect in
-    record { some = none.1.1.1.0; reached = subst (λ (gs : List Target). MissedByTargets gs c.args.disturbance.time (points_on ground) → ⊥) (sym c.in_ok-counted.ensures.counted) none.1.1.1.1.0 }
+    record { some = none.1.1.1.0; reached = subst (λ (gs : List Target). MissedByTargets gs c.args.disturbance.time (points_on footing) → ⊥) (sym c.in_ok-counted.ensures.counted) none.1.1.1.1.0 }
 
 pub window_values-found-requires : goal.window_values-found-requires
 window_values-found-requires g c =

@@ -4,7 +4,7 @@ use Rattle.figure.specs.Points.{turned, origin}
 use Rattle.figure.specs.Steps.{is_base}
 use Rattle.delivery.proofs.Keeping.{Misses, misses_decided}
 use Rattle.delivery.proofs.Reaching.{nothing}
-use Rattle.delivery.proofs.ground.Ground.misses_one.Goals as goal
+use Rattle.delivery.proofs.footing.Footing.misses_one.Goals as goal
 
 pub returns : goal.returns
 returns c =

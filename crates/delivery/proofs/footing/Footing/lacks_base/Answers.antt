@@ -4,7 +4,7 @@ use Rattle.std.proofs.lemmas.Iterator.Search.{any_from_yields_List}
 use Rattle.figure.specs.Points.{turned}
 use Rattle.figure.specs.Steps.{is_base}
 use Rattle.delivery.proofs.Keeping.{keeps_none}
-use Rattle.delivery.proofs.ground.Ground.lacks_base.Goals as goal
+use Rattle.delivery.proofs.footing.Footing.lacks_base.Goals as goal
 
 pub returns : goal.returns
 returns c =

@@ -2,7 +2,7 @@
 ghost use Rattle.std.specs.Prelude.{◌≡◌, ◌<◌, true, [], length, Decides};
 ghost use Rattle.figure.specs.Steps.{is_base};
 ghost use Rattle.figure.specs.Defects.{Missed, OneMissed, MissedByTargets};
-ghost use Rattle.delivery.specs.Grounds.{points_on};
+ghost use Rattle.delivery.specs.Footings.{points_on};
 
 use crate::points::turned;
 use crate::targets::Targets;
@@ -13,13 +13,13 @@ use response::base::BaseWindow;
 
 // A trace, as its disturbance turns it, and the base window before the disturbance.
 #[derive(Clone, Copy)]
-pub(crate) struct Ground<'a> {
+pub(crate) struct Footing<'a> {
     pub(crate) trace: Trace<'a>,
     pub(crate) disturbance: Disturbance,
     pub(crate) window: BaseWindow,
 }
 
-impl Ground<'_> {
+impl Footing<'_> {
     // Whether a point counts for the base. Both edges are inside.
     pub(crate) fn counts(self, point: Point) -> bool
         ensures { result ≡ is_base self.entry.disturbance.time self.entry.window point }
@@ -53,16 +53,13 @@ impl Ground<'_> {
         ensures { Decides result ((0 < length targets.entry.all.now) × (OneMissed targets.entry.all.now (points_on self.entry))) }
     {
         let direction = self.disturbance.direction;
-        self.trace
-            .samples
-            .iter()
-            .any(|sample| self.has_missed(targets, turned(direction, *sample)))
+        self.trace.samples.iter().any(|sample| self.has_missed(targets, turned(direction, *sample)))
     }
 
     // Whether, with targets, the disturbance or a base sample is at such a time.
     pub(crate) fn is_missed(self, targets: Targets) -> bool
         ensures { Decides result (MissedByTargets targets.entry.all.now self.entry.disturbance.time (points_on self.entry)) }
     {
-        targets.miss(self.disturbance.time) || self.misses_one(targets)
+        !targets.all.is_empty() && (targets.miss(self.disturbance.time) || self.misses_one(targets))
     }
 }
