@@ -26,6 +26,7 @@ pub fn check_amend<E: Entry>(table: &[E], count: usize, place: usize, e: &E) -> 
     ensures { Allows (amend_checks E.kind count table.now place e.now) tt result }
 {
     check_strike(table, count, place)?;
+    // A field found by a question, which is an error only here.
     if let Some(field) = e.outside() {
         return Err(Reason::OutsideLimits(field));
     }
