@@ -31,7 +31,10 @@ impl fmt::Display for Summary {
         let count = self.count;
         let Disturbance { time, direction } = self.disturbance;
         let recovery = Told(self.recovery);
-        writeln!(f, "samples {count}\ndisturbance {time} {direction}\nrecovery {recovery}")
+        writeln!(
+            f,
+            "samples {count}\ndisturbance {time} {direction}\nrecovery {recovery}"
+        )
     }
 }
 
