@@ -1,5 +1,5 @@
 -- The worked cases, by computing with the numbers.
-use Rattle.std.proofs.Common.{◌≡◌, ℕ, zero, suc, ◌+◌, ◌-◌, ◌<◌, ◌≤◌, Some, refl, subst, arith}
+use Rattle.std.proofs.Common.{◌≡◌, ℕ, zero, suc, ◌+◌, ◌-◌, ◌<◌, ◌≤◌, Some, refl, subst, arith, rules}
 use Rattle.std.proofs.lemmas.Int.{ints}
 use Rattle.exact.specs.First.{First}
 use Rattle.disturbance.specs.declared.direction.Direction.TheVariants.{Low}
@@ -19,8 +19,8 @@ rising_outside zero h = omega arith
 rising_outside (suc k) h = absurd (omega arith)
 
 within_outside : (k : ℕ) → k < 2 → Within (at just_outside k)
-within_outside zero h = (omega arith, omega arith, omega arith, omega (arith, ints), omega (arith, ints))
-within_outside (suc zero) h = (omega arith, omega arith, omega arith, omega (arith, ints), omega (arith, ints))
+within_outside zero h = search rules
+within_outside (suc zero) h = search rules
 within_outside (suc (suc k)) h = absurd (omega arith)
 
 rising_a : (k : ℕ) → k + 1 < 4 → (at record_a k).time < (at record_a (k + 1)).time
@@ -30,10 +30,10 @@ rising_a (suc (suc zero)) h = omega arith
 rising_a (suc (suc (suc k))) h = absurd (omega arith)
 
 within_a : (k : ℕ) → k < 4 → Within (at record_a k)
-within_a zero h = (omega arith, omega arith, omega arith, omega (arith, ints), omega (arith, ints))
-within_a (suc zero) h = (omega arith, omega arith, omega arith, omega (arith, ints), omega (arith, ints))
-within_a (suc (suc zero)) h = (omega arith, omega arith, omega arith, omega (arith, ints), omega (arith, ints))
-within_a (suc (suc (suc zero))) h = (omega arith, omega arith, omega arith, omega (arith, ints), omega (arith, ints))
+within_a zero h = search rules
+within_a (suc zero) h = search rules
+within_a (suc (suc zero)) h = search rules
+within_a (suc (suc (suc zero))) h = search rules
 within_a (suc (suc (suc (suc k)))) h = absurd (omega arith)
 
 sound_a : Sound record_a

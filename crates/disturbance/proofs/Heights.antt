@@ -18,28 +18,31 @@ pub record Between (a b : Sample) (t : ℕ) : Type 0 where
   pub first : a.frequency ≤ 100000
   pub second : b.frequency ≤ 100000
 
+between_rises : {a b : Sample} {t : ℕ} → Between a b t → a.time < b.time
+between_rises w = omega (arith, w.after, w.until)
+
 -- the line, taken as often as there are milliseconds from a to b: each end counts by the time to the other
 abbrev pub along : (ℕ → ℤ) → Sample → Sample → ℕ → ℤ
 along value a b t = value a.frequency *ℤ pos (b.time - t) +ℤ value b.frequency *ℤ pos (t - a.time)
 
 module _ (value : ℕ → ℤ) (level : ℕ) (a b : Sample) (t : ℕ) (w : Between a b t) where
   pub under_sum : Under value level a b t → along value a b t <ℤ pos (level * (b.time - a.time))
-  under_sum h = under_out (value a.frequency) (value b.frequency) a.time b.time t level (omega (arith, w.after, w.until)) (omega (arith, w.after)) w.until h
+  under_sum h = under_out (value a.frequency) (value b.frequency) a.time b.time t level (between_rises w) (omega (arith, w.after)) w.until h
 
   pub sum_under : along value a b t <ℤ pos (level * (b.time - a.time)) → Under value level a b t
-  sum_under h = under_in (value a.frequency) (value b.frequency) a.time b.time t level (omega (arith, w.after, w.until)) (omega (arith, w.after)) w.until h
+  sum_under h = under_in (value a.frequency) (value b.frequency) a.time b.time t level (between_rises w) (omega (arith, w.after)) w.until h
 
   pub over_sum : Over value level a b t → pos (level * (b.time - a.time)) <ℤ along value a b t
-  over_sum h = over_out (value a.frequency) (value b.frequency) a.time b.time t level (omega (arith, w.after, w.until)) (omega (arith, w.after)) w.until h
+  over_sum h = over_out (value a.frequency) (value b.frequency) a.time b.time t level (between_rises w) (omega (arith, w.after)) w.until h
 
   pub sum_over : pos (level * (b.time - a.time)) <ℤ along value a b t → Over value level a b t
-  sum_over h = over_in (value a.frequency) (value b.frequency) a.time b.time t level (omega (arith, w.after, w.until)) (omega (arith, w.after)) w.until h
+  sum_over h = over_in (value a.frequency) (value b.frequency) a.time b.time t level (between_rises w) (omega (arith, w.after)) w.until h
 
   pub least_sum : AtLeast value level a b t → pos (level * (b.time - a.time)) ≤ℤ along value a b t
-  least_sum h = least_out (value a.frequency) (value b.frequency) a.time b.time t level (omega (arith, w.after, w.until)) (omega (arith, w.after)) w.until h
+  least_sum h = least_out (value a.frequency) (value b.frequency) a.time b.time t level (between_rises w) (omega (arith, w.after)) w.until h
 
   pub sum_least : pos (level * (b.time - a.time)) ≤ℤ along value a b t → AtLeast value level a b t
-  sum_least h = least_in (value a.frequency) (value b.frequency) a.time b.time t level (omega (arith, w.after, w.until)) (omega (arith, w.after)) w.until h
+  sum_least h = least_in (value a.frequency) (value b.frequency) a.time b.time t level (between_rises w) (omega (arith, w.after)) w.until h
 
 -- a difference times a natural
 sub_times : (m n k : ℕ) → (pos m -ℤ pos n) *ℤ pos k +ℤ pos (n * k) ≡ pos (m * k)
@@ -85,20 +88,20 @@ module _ (f g p q n l : ℕ) (e : n ≡ p + q) where
 
 -- the dip of the line is under a level just where the line has passed above it on the other side
 pub dip_under : (d : Direction) (l : ℕ) (a b : Sample) (t : ℕ) → l ≤ 50000 → Between a b t → Under (dip d) l a b t → Passes (turned d) (50000 - l) true a b t
-dip_under Low l a b t le w h = low_under a.frequency b.frequency (b.time - t) (t - a.time) (b.time - a.time) l (omega arith) le (under_sum (dip Low) l a b t w h)
-dip_under High l a b t le w h = high_under a.frequency b.frequency (b.time - t) (t - a.time) (b.time - a.time) l (omega arith) le w.first w.second (under_sum (dip High) l a b t w h)
+dip_under Low l a b t le w h = low_under _ _ _ _ _ l (omega arith) le (under_sum (dip Low) l a b t w h)
+dip_under High l a b t le w h = high_under _ _ _ _ _ l (omega arith) le w.first w.second (under_sum (dip High) l a b t w h)
 
 pub dip_under_back : (d : Direction) (l : ℕ) (a b : Sample) (t : ℕ) → l ≤ 50000 → Between a b t → Passes (turned d) (50000 - l) true a b t → Under (dip d) l a b t
-dip_under_back Low l a b t le w h = sum_under (dip Low) l a b t w (low_under_back a.frequency b.frequency (b.time - t) (t - a.time) (b.time - a.time) l (omega arith) le h)
-dip_under_back High l a b t le w h = sum_under (dip High) l a b t w (high_under_back a.frequency b.frequency (b.time - t) (t - a.time) (b.time - a.time) l (omega arith) le w.first w.second h)
+dip_under_back Low l a b t le w h = sum_under (dip Low) l a b t w (low_under_back _ _ _ _ _ l (omega arith) le h)
+dip_under_back High l a b t le w h = sum_under (dip High) l a b t w (high_under_back _ _ _ _ _ l (omega arith) le w.first w.second h)
 
 pub dip_least : (d : Direction) (l : ℕ) (a b : Sample) (t : ℕ) → Between a b t → AtLeast (dip d) l a b t → Passes d (50000 + l) false a b t
-dip_least Low l a b t w h = low_least a.frequency b.frequency (b.time - t) (t - a.time) (b.time - a.time) l (omega arith) w.first w.second (least_sum (dip Low) l a b t w h)
-dip_least High l a b t w h = high_least a.frequency b.frequency (b.time - t) (t - a.time) (b.time - a.time) l (omega arith) (least_sum (dip High) l a b t w h)
+dip_least Low l a b t w h = low_least _ _ _ _ _ l (omega arith) w.first w.second (least_sum (dip Low) l a b t w h)
+dip_least High l a b t w h = high_least _ _ _ _ _ l (omega arith) (least_sum (dip High) l a b t w h)
 
 pub dip_least_back : (d : Direction) (l : ℕ) (a b : Sample) (t : ℕ) → Between a b t → Passes d (50000 + l) false a b t → AtLeast (dip d) l a b t
-dip_least_back Low l a b t w h = sum_least (dip Low) l a b t w (low_least_back a.frequency b.frequency (b.time - t) (t - a.time) (b.time - a.time) l (omega arith) w.first w.second h)
-dip_least_back High l a b t w h = sum_least (dip High) l a b t w (high_least_back a.frequency b.frequency (b.time - t) (t - a.time) (b.time - a.time) l (omega arith) h)
+dip_least_back Low l a b t w h = sum_least (dip Low) l a b t w (low_least_back _ _ _ _ _ l (omega arith) w.first w.second h)
+dip_least_back High l a b t w h = sum_least (dip High) l a b t w (high_least_back _ _ _ _ _ l (omega arith) h)
 
 -- what holds of the line in other words
 pub line_as : {P Q : Sample → Sample → ℕ → Type 0} (xs : List Sample) → Sound xs → ((a b : Sample) (t : ℕ) → Between a b t → P a b t → Q a b t) → (t : ℕ) → LineAt P xs t → LineAt Q xs t

@@ -6,11 +6,13 @@ use Rattle.exact.specs.First.{First, FirstOrNone}
 use Rattle.recording.specs.declared.sample.Sample.{Sample}
 use Rattle.disturbance.specs.declared.direction.Direction.{Direction}
 use Rattle.disturbance.specs.declared.direction.Direction.TheVariants.{Low, High}
+use Rattle.disturbance.specs.declared.stretch.Stretch.{Stretch}
 use Rattle.disturbance.specs.Band.{lowest, highest, Inside, Beyond, Outside}
-use Rattle.disturbance.specs.Passing.{Passes, ReachedBetween}
+use Rattle.disturbance.specs.Passing.{Passes, ReachedBetween, PassedBetween}
 use Rattle.disturbance.specs.Disturbance.{LeavesBy, leaves_to, leaving_time, timed, leaving}
 use Rattle.disturbance.proofs.Heights.{Between, rest_times, under_sum, sum_under, over_sum, sum_over}
 use Rattle.disturbance.proofs.Quotients.{past_edge}
+use Rattle.disturbance.proofs.Scans.{between_as}
 
 -- for times p and q that make up n
 module _ (f g p q n : ℕ) (e : n ≡ p + q) where
@@ -34,14 +36,14 @@ module _ (f g p q n : ℕ) (e : n ≡ p + q) where
 
 -- from inside to outside the line is outside on that side
 pub outside_passes : (d : Direction) (a b : Sample) (t : ℕ) → Inside a → Beyond d b → Between a b t → Outside a b t → Passes d highest true a b t
-outside_passes Low a b t i o w (inl under) = under_low a.frequency b.frequency (b.time - t) (t - a.time) (b.time - a.time) (omega arith) w.first w.second (under_sum pos lowest a b t w under)
-outside_passes Low a b t i o w (inr over) = absurd (not_over a.frequency b.frequency (b.time - t) (t - a.time) (b.time - a.time) (omega arith) i.1 (omega arith) (over_sum pos highest a b t w over))
-outside_passes High a b t i o w (inl under) = absurd (not_under a.frequency b.frequency (b.time - t) (t - a.time) (b.time - a.time) (omega arith) i.0 (omega arith) (under_sum pos lowest a b t w under))
-outside_passes High a b t i o w (inr over) = over_high a.frequency b.frequency (b.time - t) (t - a.time) (b.time - a.time) (omega arith) (over_sum pos highest a b t w over)
+outside_passes Low a b t i o w (inl under) = under_low _ _ _ _ _ (omega arith) w.first w.second (under_sum pos lowest a b t w under)
+outside_passes Low a b t i o w (inr over) = absurd (not_over _ _ _ _ _ (omega arith) i.1 (omega arith) (over_sum pos highest a b t w over))
+outside_passes High a b t i o w (inl under) = absurd (not_under _ _ _ _ _ (omega arith) i.0 (omega arith) (under_sum pos lowest a b t w under))
+outside_passes High a b t i o w (inr over) = over_high _ _ _ _ _ (omega arith) (over_sum pos highest a b t w over)
 
 pub passes_outside : (d : Direction) (a b : Sample) (t : ℕ) → Between a b t → Passes d highest true a b t → Outside a b t
-passes_outside Low a b t w h = inl (sum_under pos lowest a b t w (low_under a.frequency b.frequency (b.time - t) (t - a.time) (b.time - a.time) (omega arith) w.first w.second h))
-passes_outside High a b t w h = inr (sum_over pos highest a b t w (high_over a.frequency b.frequency (b.time - t) (t - a.time) (b.time - a.time) (omega arith) h))
+passes_outside Low a b t w h = inl (sum_under pos lowest a b t w (low_under _ _ _ _ _ (omega arith) w.first w.second h))
+passes_outside High a b t w h = inr (sum_over pos highest a b t w (high_over _ _ _ _ _ (omega arith) h))
 
 -- the side of a sample is one
 pub side_unique : (d e : Direction) (s : Sample) → Beyond d s → Beyond e s → d ≡ e
@@ -62,21 +64,28 @@ pub record Way (d : Direction) (a b : Sample) : Type 0 where
   pub inside : Inside a
   pub beyond : Beyond d b
 
+-- of a stretch its order and its limits are known
+pub way : (p : Stretch) (d : Direction) → Inside p.before → Beyond d p.after → Way d p.before p.after
+way p d inside beyond = record { times = p.order; high = p.after_within.2; inside = inside; beyond = beyond }
+
 -- past the edge of the band, after sample a
 abbrev pub PastEdge : Direction → Sample → Sample → ℕ → Type 0
-PastEdge d a b = ReachedBetween d highest true a b (a.time + 1)
+PastEdge d a b = PassedBetween d highest true a b (a.time + 1)
 
 -- outside, after sample a and not after sample b
 abbrev pub OutsideBetween : Sample → Sample → ℕ → Type 0
 OutsideBetween a b t = (a.time < t) × (t ≤ b.time) × Outside a b t
 
 -- the time worked out is the first past the edge
-pub edge_first : (d : Direction) (a b : Sample) → Way d a b → First (PastEdge d a b) (leaving_time d a b)
-edge_first Low a b w =
+edge_reached : (d : Direction) (a b : Sample) → Way d a b → First (ReachedBetween d highest true a b (a.time + 1)) (leaving_time d a b)
+edge_reached Low a b w =
     let near : highest - (100000 - a.frequency) ≡ a.frequency - lowest = omega (arith, w.inside.0, w.inside.1) in
     let far : 100000 - b.frequency - (100000 - a.frequency) ≡ a.frequency - b.frequency = omega (arith, w.inside.1, w.beyond) in
     simp (near, far) at (past_edge a.time (100000 - a.frequency) b.time (100000 - b.frequency) highest w.times (omega (arith, w.inside.0)) (omega (arith, w.beyond)))
-edge_first High a b w = past_edge a.time a.frequency b.time b.frequency highest w.times w.inside.1 w.beyond
+edge_reached High a b w = past_edge a.time a.frequency b.time b.frequency highest w.times w.inside.1 w.beyond
+
+pub edge_first : (d : Direction) (a b : Sample) → Way d a b → First (PastEdge d a b) (leaving_time d a b)
+edge_first d a b w = between_as d highest true a b (a.time + 1) (a.time + 1) (omega arith) (Some (leaving_time d a b)) (edge_reached d a b w)
 
 module _ (d : Direction) (a b : Sample) (w : Way d a b) where
   between : (t : ℕ) → a.time < t → t ≤ b.time → Between a b t
@@ -84,10 +93,9 @@ module _ (d : Direction) (a b : Sample) (w : Way d a b) where
 
   pub edge_outside : (t : ℕ) → First (PastEdge d a b) t → First (OutsideBetween a b) t
   edge_outside t f =
-      let after : a.time < t = omega (arith, f.holds.after) in
       record {
-        holds = (after, f.holds.until, passes_outside d a b t (between t after f.holds.until) f.holds.level);
-        earlier = λ u less h. f.earlier u less (record { after = omega (arith, h.0); until = h.1; level = outside_passes d a b u w.inside w.beyond (between u h.0 h.1) h.2 });
+        holds = (f.holds.1, f.holds.2, passes_outside d a b t (between t f.holds.1 f.holds.2) f.holds.3);
+        earlier = λ u less h. f.earlier u less (omega (arith, h.0), h.0, h.1, outside_passes d a b u w.inside w.beyond (between u h.0 h.1) h.2);
       }
 
   pub leaving_some : (o : Option ℕ) → FirstOrNone (PastEdge d a b) o → is_some o ≡ true

@@ -5,4 +5,5 @@ pub mod Heights
 pub mod Leaving
 pub mod Quotients
 pub mod Scans
+pub mod Stretches
 pub mod Times

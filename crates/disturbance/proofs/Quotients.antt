@@ -1,7 +1,8 @@
 -- A straight line that climbs to a goal reaches it first at a rounded-up quotient.
-use Rattle.std.proofs.Common.{◌≡◌, ℕ, ◌+◌, ◌-◌, ◌*◌, ◌/◌, ◌%◌, ◌<◌, ◌≤◌, min, ◌⊎◌, sym, ap, ◌∙◌, subst, inl, inr, mul-le-mul_right, mod-lt, mul-le-mul_left, arith}
-use native.Mathlib.Nat.{div-add-mod, mul-div-le, lt-mul-div-succ}
+use Rattle.std.proofs.Common.{◌≡◌, ℕ, ◌+◌, ◌-◌, ◌*◌, ◌/◌, ◌<◌, ◌≤◌, sym, ap, ◌∙◌, subst, inl, inr, mul-le-mul_right, mul-le-mul_left, arith}
+use native.Mathlib.Nat.{mul-div-le, lt-mul-div-succ}
 use Rattle.std.proofs.lemmas.Bool.{cases_lt}
+use Rattle.std.proofs.lemmas.Grind.{div_ceil_times}
 use Rattle.exact.specs.First.{First}
 use Rattle.disturbance.specs.Crossing.{rounded_up, Reached}
 
@@ -11,18 +12,11 @@ pub record Steps (m d q : ℕ) : Type 0 where
   pub least : d * q < m + d
 
 module _ (m d : ℕ) (some : 0 < d) where
-  last_step : ((min 1 (m % d) ≡ 0) × (m % d ≡ 0)) ⊎ ((min 1 (m % d) ≡ 1) × (1 ≤ m % d))
-  last_step = elim (cases_lt 0 (m % d)) [ inl more ↦ inr (omega arith, omega arith) | inr none ↦ inl (omega arith, omega arith) ]
-
   pub rounded_steps : (q : ℕ) → q ≡ rounded_up m d → Steps m d q
   rounded_steps q is =
-      let whole = div-add-mod m d in
-      let rest = mod-lt m some in
-      let e = ap (λ n. d * n) is in
-      elim last_step [
-        | inl h ↦ let f = ap (λ n. d * (m / d + n)) h.0 in record { enough = omega arith; least = omega arith }
-        | inr h ↦ let f = ap (λ n. d * (m / d + n)) h.0 in record { enough = omega arith; least = omega arith }
-      ]
+      let e = ap (λ n. n * d) is in
+      let h = div_ceil_times m d some in
+      record { enough = omega (arith, h.0, e); least = omega (arith, h.1, e) }
 
   pub next_steps : Steps (m + 1) d (m / d + 1)
   next_steps = record { enough = omega (arith, lt-mul-div-succ m some); least = omega (arith, mul-div-le m d) }

@@ -5,6 +5,7 @@ pub mod Disturbance
 pub mod Line
 pub mod Passing
 pub mod Recovery
+pub mod Stretches
 pub mod Trace
 pub mod Trigger
 pub mod Worked

@@ -1,38 +1,37 @@
 // Where a straight line has reached a goal, found by one division.
-ghost use Rattle.std.specs.Prelude.{◌≡◌, ◌<◌, ◌≤◌};
+ghost use Rattle.std.specs.Prelude.{◌≤◌, ◌<◌};
 ghost use Rattle.exact.specs.First.{FirstOrNone};
-ghost use Rattle.disturbance.specs.Crossing.{rounded_up, Reached};
+ghost use Rattle.disturbance.specs.Crossing.{Reached};
 
-// A quotient, rounded up.
-fn rounded_up(amount: u64, step: u64) -> u64
-    requires { 0 < step }
-    ensures { result ≡ rounded_up amount step }
-{
-    amount.div_ceil(step)
+// A straight line of heights, from x at start to y at end.
+#[derive(Clone, Copy)]
+pub(crate) struct Slope {
+    pub(crate) start: u32,
+    pub(crate) x: u32,
+    pub(crate) end: u32,
+    pub(crate) y: u32,
+    ghost order: { (start < end) × (end ≤ 1200000) },
+    ghost limits: { (x ≤ 100000) × (y ≤ 100000) },
 }
 
-// The first whole millisecond of from to end at which the line from x at start to y at end, taken
-// end - start times so that it stays whole, is at least goal.
-pub(crate) fn first_reached(
-    start: u32,
-    x: u32,
-    end: u32,
-    y: u32,
-    goal: u64,
-    from: u32,
-) -> Option<u32>
-    requires order { (start ≤ from) × ((from ≤ end) × (end ≤ 1200000)) }
-    requires limits { (x ≤ 100000) × (y ≤ 100000) }
-    ensures { FirstOrNone (Reached start x end y goal from) result }
-{
-    let here = x as u64 * (end - from) as u64 + y as u64 * (from - start) as u64;
-    if goal <= here {
-        return Some(from);
+impl Slope {
+    // The first whole millisecond from a time on at which the line, taken end - start times so that
+    // it stays whole, is at least goal.
+    pub(crate) fn first_reached(self, goal: u64, from: u32) -> Option<u32>
+        requires { (self.start ≤ from) × (from ≤ self.end) }
+        ensures { FirstOrNone (Reached self.start self.x self.end self.y goal from) result }
+    {
+        let Slope { start, x, end, y } = self;
+        let here = x as u64 * (end - from) as u64 + y as u64 * (from - start) as u64;
+        if goal <= here {
+            return Some(from);
+        }
+        let span = (end - start) as u64;
+        if y as u64 * span < goal {
+            return None;
+        }
+        let need = goal - x as u64 * span;
+        let climb = (y - x) as u64;
+        Some(start + need.div_ceil(climb) as u32)
     }
-    let span = (end - start) as u64;
-    if y as u64 * span < goal {
-        return None;
-    }
-    let need = goal - x as u64 * span;
-    Some(start + rounded_up(need, (y - x) as u64) as u32)
 }

@@ -8,6 +8,8 @@ pub mod disturbance;
 pub mod line;
 mod passing;
 pub mod recovery;
+mod scan;
+mod stretch;
 pub mod trace;
 pub mod trigger;
 pub mod worked;

@@ -1,77 +1,88 @@
-// The first whole millisecond at which the line has passed a level. Dips are counted as heights,
+// The first whole millisecond at which the line has passed a mark. Dips are counted as heights,
 // which are dips raised by nominal: never negative, and one question for either direction.
-ghost use Rattle.std.specs.Prelude.{◌≡◌, ◌^◌, ◌≤◌};
+ghost use Rattle.std.specs.Prelude.{◌≡◌, ◌-◌, ◌^◌, ◌≤◌};
 ghost use Rattle.exact.specs.First.{FirstOrNone};
-ghost use Rattle.disturbance.specs.Passing.{height, goal, ReachedBetween, PassedFrom};
+ghost use Rattle.disturbance.specs.Passing.{height, goal, level, is_above, PassedBetween, PassedFrom};
 
-use crate::crossing::first_reached;
+use crate::crossing::Slope;
 use crate::direction::{Direction, NOMINAL};
+use crate::scan::first_found;
+use crate::stretch::Stretch;
 use crate::trace::Trace;
-use recording::sample::Sample;
+
+// What a height has to come to: a level, or more than it.
+#[derive(Clone, Copy)]
+pub(crate) enum Mark {
+    Reach(u64),
+    Exceed(u64),
+}
+
+// What is looked for on the line: that the height on one side of nominal is past a mark, from a
+// time on.
+#[derive(Clone, Copy)]
+pub(crate) struct Search {
+    pub(crate) side: Direction,
+    pub(crate) mark: Mark,
+    pub(crate) from: u64,
+    ghost low: { level mark ≤ 2 ^ 33 },
+}
 
 // The dip of a frequency, raised by nominal.
-fn height_of(direction: Direction, frequency: u32) -> u32
+fn height_of(side: Direction, frequency: u32) -> u32
     requires { frequency ≤ 100000 }
-    ensures is { result ≡ height direction frequency }
+    ensures is { result ≡ height side frequency }
     ensures small { result ≤ 100000 }
 {
-    match direction {
+    match side {
         Direction::Low => 2 * NOMINAL - frequency,
         Direction::High => frequency,
     }
 }
 
-// A level, or what lies above it, taken span times.
-fn goal_of(level: u64, above: bool, span: u32) -> u64
-    requires { (level ≤ 2 ^ 33) × (span ≤ 1200000) }
-    ensures { result ≡ goal level above span }
-{
-    let whole = level * span as u64;
-    if above { whole + 1 } else { whole }
-}
-
-// The first whole millisecond from a time on, between two samples, at which the height is at least
-// a level, or above it.
-pub(crate) fn first_between(
-    a: Sample,
-    b: Sample,
-    direction: Direction,
-    level: u64,
-    above: bool,
-    from: u32,
-) -> Option<u32>
-    requires order { (a.time ≤ from) × ((from ≤ b.time) × (b.time ≤ 1200000)) }
-    requires limits { (a.frequency ≤ 100000) × ((b.frequency ≤ 100000) × (level ≤ 2 ^ 33)) }
-    ensures { FirstOrNone (ReachedBetween direction level above a b from) result }
-{
-    let x = height_of(direction, a.frequency);
-    let y = height_of(direction, b.frequency);
-    let goal = goal_of(level, above, b.time - a.time);
-    first_reached(a.time, x, b.time, y, goal, from)
-}
-
-// The first whole millisecond from a time on at which the height of the line is at least a level,
-// or above it. One pass over the samples.
-pub(crate) fn first_on_line(
-    trace: Trace,
-    direction: Direction,
-    level: u64,
-    above: bool,
-    from: u64,
-) -> Option<u32>
-    requires { level ≤ 2 ^ 33 }
-    ensures { FirstOrNone (PassedFrom trace.entry.samples.now direction level above from) result }
-{
-    let samples = trace.samples;
-    for k in 1..samples.len() {
-        let a = samples[k - 1];
-        let b = samples[k];
-        if from <= b.time as u64 {
-            let start = (from as u32).max(a.time + 1);
-            if let Some(t) = first_between(a, b, direction, level, above, start) {
-                return Some(t);
-            }
+impl Stretch {
+    // The heights of the line on one side.
+    fn slope(self, side: Direction) -> Slope
+        ensures start { result.start ≡ self.before.time }
+        ensures x { result.x ≡ height side self.before.frequency }
+        ensures end { result.end ≡ self.after.time }
+        ensures y { result.y ≡ height side self.after.frequency }
+    {
+        Slope {
+            start: self.before.time,
+            x: height_of(side, self.before.frequency),
+            end: self.after.time,
+            y: height_of(side, self.after.frequency),
         }
     }
-    None
+
+    // The least number past a mark, where heights are taken as often as there are milliseconds.
+    fn goal(self, sought: Search) -> u64
+        ensures { result ≡ goal (level sought.mark) (is_above sought.mark) (self.after.time - self.before.time) }
+    {
+        let span = (self.after.time - self.before.time) as u64;
+        match sought.mark {
+            Mark::Reach(level) => level * span,
+            Mark::Exceed(level) => level * span + 1,
+        }
+    }
+
+    // The first whole millisecond, after the one sample and not after the other, that is searched
+    // for.
+    pub(crate) fn first_passed(self, sought: Search) -> Option<u32>
+        ensures { FirstOrNone (PassedBetween sought.side (level sought.mark) (is_above sought.mark) self.before self.after sought.from) result }
+    {
+        if sought.from > self.after.time as u64 {
+            return None;
+        }
+        let from = (sought.from as u32).max(self.before.time + 1);
+        self.slope(sought.side)
+            .first_reached(self.goal(sought), from)
+    }
+}
+
+// The first whole millisecond of a trace that is searched for.
+pub(crate) fn first_on_line(trace: Trace, sought: Search) -> Option<u32>
+    ensures { FirstOrNone (PassedFrom trace.entry.samples.now sought.side (level sought.mark) (is_above sought.mark) sought.from) result }
+{
+    first_found(trace, |stretch| stretch.first_passed(sought))
 }

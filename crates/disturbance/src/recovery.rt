@@ -7,7 +7,7 @@ ghost use Rattle.disturbance.specs.Recovery.{recovery_dip, Recovered};
 
 use crate::direction::{Direction, NOMINAL};
 use crate::disturbance::Disturbance;
-use crate::passing::first_on_line;
+use crate::passing::{Mark, Search, first_on_line};
 use crate::trace::Trace;
 
 // The dip below which the network has recovered, in mHz.
@@ -19,7 +19,12 @@ fn first_above(trace: Trace, side: Direction, time: u32) -> Option<u32>
     ensures { FirstOrNone (PassedFrom trace.entry.samples.now side (nominal - recovery_dip) true (time + 1)) result }
 {
     let level = (NOMINAL - RECOVERY_DIP) as u64;
-    first_on_line(trace, side, level, true, time as u64 + 1)
+    let sought = Search {
+        side,
+        mark: Mark::Exceed(level),
+        from: time as u64 + 1,
+    };
+    first_on_line(trace, sought)
 }
 
 // The first whole millisecond after the disturbance time at which the line's dip is below the

@@ -1,8 +1,8 @@
 // A trace: samples within their limits, at times that strictly rise.
-ghost use Rattle.std.specs.Prelude.{ℕ, ◌<◌, length, Decides};
+ghost use Rattle.std.specs.Prelude.{◌≡◌, ℕ, ◌<◌, length, Decides, MatchOption};
 ghost use Rattle.disturbance.specs.Trace.{at, Rising, Sound, Within};
 
-use recording::sample::{GREATEST_FREQUENCY, GREATEST_POWER, LATEST, LEAST_FREQUENCY, Sample};
+use recording::sample::{Sample, is_frequency, is_power, is_time};
 
 // A trace can only be made of samples that are sound, so whatever is asked of one may rely on it.
 #[derive(Clone, Copy)]
@@ -15,11 +15,7 @@ pub struct Trace<'a> {
 fn is_within(sample: Sample) -> bool
     ensures { Decides result (Within sample) }
 {
-    sample.time <= LATEST
-        && LEAST_FREQUENCY <= sample.frequency
-        && sample.frequency <= GREATEST_FREQUENCY
-        && -GREATEST_POWER <= sample.power
-        && sample.power <= GREATEST_POWER
+    is_time(sample.time) && is_frequency(sample.frequency) && is_power(sample.power)
 }
 
 // Whether every sample is within its limits.
@@ -41,4 +37,18 @@ pub fn is_sound(samples: &[Sample]) -> bool
     ensures { Decides result (Sound samples.now) }
 {
     are_within(samples) && are_rising(samples)
+}
+
+impl<'a> Trace<'a> {
+    // A trace of samples that are sound, or none.
+    pub fn new(samples: &'a [Sample]) -> Option<Trace<'a>>
+        ensures { MatchOption result (Sound samples.now → ⊥) (λ trace. trace.samples.now ≡ samples.now) }
+    {
+        // Not by `then`: its closure would need a `requires` that says what the `if` says.
+        if is_sound(samples) {
+            Some(Trace { samples })
+        } else {
+            None
+        }
+    }
 }

@@ -7,7 +7,7 @@ ghost use Rattle.disturbance.specs.Trigger.{Before, Triggered};
 
 use crate::direction::NOMINAL;
 use crate::disturbance::Disturbance;
-use crate::passing::first_on_line;
+use crate::passing::{Mark, Search, first_on_line};
 use crate::trace::Trace;
 
 // Whether a time is before any recovery.
@@ -23,13 +23,12 @@ fn first_reaching(trace: Trace, disturbance: Disturbance, trigger: u32) -> Optio
     ensures { FirstOrNone (PassedFrom trace.entry.samples.now disturbance.direction (nominal + trigger) false disturbance.time) result }
 {
     let level = NOMINAL as u64 + trigger as u64;
-    first_on_line(
-        trace,
-        disturbance.direction,
-        level,
-        false,
-        disturbance.time as u64,
-    )
+    let sought = Search {
+        side: disturbance.direction,
+        mark: Mark::Reach(level),
+        from: disturbance.time as u64,
+    };
+    first_on_line(trace, sought)
 }
 
 // The first whole millisecond from the disturbance time on, before any recovery, at which the line's

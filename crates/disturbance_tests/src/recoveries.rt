@@ -3,14 +3,19 @@ use crate::traces::{at, high, low, record_a, recovers};
 use recording::sample::Sample;
 use std::test::Fail;
 
+// From nominal to a second sample after 10 ms, and then to the last two.
+fn from_nominal(second: u32, third: u32, last: u32) -> [Sample; 4] {
+    [at(0, 50_000), at(10, second), at(20, third), at(30, last)]
+}
+
 // It falls by 20 a ms, so that the edge is passed after 7.5 ms; then it goes to the last two samples.
 fn dipped(third: u32, last: u32) -> [Sample; 4] {
-    [at(0, 50_000), at(10, 49_800), at(20, third), at(30, last)]
+    from_nominal(49_800, third, last)
 }
 
 // The same the other way.
 fn raised(third: u32, last: u32) -> [Sample; 4] {
-    [at(0, 50_000), at(10, 50_200), at(20, third), at(30, last)]
+    from_nominal(50_200, third, last)
 }
 
 // 250 at 10 a ms: on 50,000 at 20,075.

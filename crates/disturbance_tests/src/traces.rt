@@ -2,13 +2,11 @@
 use disturbance::direction::Direction;
 use disturbance::disturbance::{Disturbance, find_disturbance};
 use disturbance::recovery::recovery;
-use disturbance::trace::{Trace, is_sound};
+use disturbance::trace::Trace;
 use disturbance::trigger::trigger_time;
 use recording::sample::Sample;
 use std::process::Abort;
 use std::test::Fail;
-
-const UNSOUND: &str = "sound samples were expected";
 
 // Power has no part in where the line goes.
 pub(crate) fn at(time: u32, frequency: u32) -> Sample {
@@ -29,6 +27,7 @@ pub(crate) fn record_a() -> [Sample; 4] {
     ]
 }
 
+// Two names in place of a parameter, so that an example says its side in one word.
 pub(crate) fn low(time: u32) -> Disturbance {
     Disturbance {
         time,
@@ -43,20 +42,9 @@ pub(crate) fn high(time: u32) -> Disturbance {
     }
 }
 
-fn is_low(disturbance: Disturbance) -> bool {
-    match disturbance.direction {
-        Direction::Low => true,
-        Direction::High => false,
-    }
-}
-
-// What is found on sound samples.
-fn found(samples: &[Sample]) -> Result<Option<Disturbance>, Fail> {
-    if is_sound(samples) {
-        Ok(find_disturbance(Trace { samples }))
-    } else {
-        Err(Fail::new(UNSOUND))
-    }
+// The trace that sound samples make.
+fn trace_of(samples: &[Sample]) -> Result<Trace<'_>, &'static str> {
+    Trace::new(samples).ok_or("sound samples were expected")
 }
 
 pub(crate) fn is_disturbed(
@@ -64,18 +52,12 @@ pub(crate) fn is_disturbed(
     samples: &[Sample],
     expected: Disturbance,
 ) -> Result<(), Fail> {
-    match found(samples)? {
-        Some(disturbance) => {
-            assert_eq!(rt; disturbance.time, expected.time);
-            assert_eq!(rt; is_low(disturbance), is_low(expected), "the direction");
-            Ok(())
-        }
-        None => Err(Fail::new("a disturbance was expected")),
-    }
+    assert_eq!(rt; find_disturbance(trace_of(samples)?), Some(expected));
+    Ok(())
 }
 
 pub(crate) fn is_undisturbed(rt: &impl Abort, samples: &[Sample]) -> Result<(), Fail> {
-    assert!(rt; found(samples)?.is_none(), "no disturbance was expected");
+    assert_eq!(rt; find_disturbance(trace_of(samples)?), None);
     Ok(())
 }
 
@@ -87,12 +69,8 @@ pub(crate) fn recovers(
     expected: Option<u32>,
 ) -> Result<(), Fail> {
     is_disturbed(rt, samples, disturbance)?;
-    if is_sound(samples) {
-        assert_eq!(rt; recovery(Trace { samples }, disturbance), expected);
-        Ok(())
-    } else {
-        Err(Fail::new(UNSOUND))
-    }
+    assert_eq!(rt; recovery(trace_of(samples)?, disturbance), expected);
+    Ok(())
 }
 
 // The disturbance is on the samples, and the dip reaches the trigger at the time, before recovery.
@@ -104,12 +82,8 @@ pub(crate) fn triggers(
     expected: Option<u32>,
 ) -> Result<(), Fail> {
     is_disturbed(rt, samples, disturbance)?;
-    if is_sound(samples) {
-        let trace = Trace { samples };
-        let end = recovery(trace, disturbance);
-        assert_eq!(rt; trigger_time(trace, disturbance, end, trigger), expected);
-        Ok(())
-    } else {
-        Err(Fail::new(UNSOUND))
-    }
+    let trace = trace_of(samples)?;
+    let end = recovery(trace, disturbance);
+    assert_eq!(rt; trigger_time(trace, disturbance, end, trigger), expected);
+    Ok(())
 }

@@ -1,5 +1,5 @@
 -- What every history keeps: the accepted samples are in order and have their places.
-use Rattle.std.proofs.Common.{◌≡◌, ℕ, ◌+◌, ◌<◌, ◌≤◌, Bool, true, false, ◌||◌, List, [], ◌∷◌, ◌++◌, length, Some, None, Ok, Err, Option, Result, sym, refl, ap, ◌∙◌, subst, append_assoc, append-nil, arith, length-append, length-set}
+use Rattle.std.proofs.Common.{◌≡◌, ℕ, ◌+◌, ◌<◌, ◌≤◌, false, List, [], ◌∷◌, ◌++◌, length, Some, None, Ok, Err, Option, Result, sym, refl, ap, ◌∙◌, subst, append_assoc, append-nil, arith, length-append, length-set}
 use Rattle.std.specs.List.{remove}
 use Rattle.recording.specs.declared.refusal.Field.{Field}
 use Rattle.recording.specs.declared.refusal.Reason.{Reason}
@@ -45,10 +45,6 @@ given : (x : Result Sample Field) → field_outside x ≡ None → (s : Sample) 
 given (Ok s) e = (s, refl)
 given (Err f) e = let z : ◌≡◌ {A = ℕ} 0 1 = cc in absurd (omega arith)
 
-or_left : (a b : Bool) → (a || b) ≡ false → a ≡ false
-or_left true b e = e
-or_left false b e = refl
-
 -- ---- one sample more at the end
 pub record Grown (places : ℕ) (xs : List Sample) (r : Reading) : Type 0 where
   pub sample : Sample
@@ -61,7 +57,7 @@ grown places xs r f e =
     let g = given (sampled r) (none_outside (field_outside (sampled r)) n.0 n.1.0 n.1.1.0) in
     let s = g.0 in
     let m : misplaced (time_before samples xs (length xs)) None s.time ≡ false = ap (misplaced (time_before samples xs (length xs)) None) (sampled_time r s g.1) ∙ n.1.1.1.1.0 in
-    let room = append_room readings places (length xs) (time_before samples xs (length xs)) r (sym e) in
+    let room = append_room readings places (length xs) (time_before samples xs (length xs)) r e in
     record { sample = s; is = g.1; fit = record { ordered = ordered_push samples xs s f.ordered (sampled_within r s g.1) m; room = omega (arith, length-append xs (s ∷ [])) } }
 
 put_fit : (places : ℕ) (xs : List Sample) (r : Reading) → Fit places xs → Fit places (put_record places xs r)

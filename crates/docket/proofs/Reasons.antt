@@ -1,5 +1,5 @@
 -- The reasons against a reading are those against its sample.
-use Rattle.std.proofs.Common.{◌≡◌, ℕ, Bool, true, false, cond, not, leb, List, [], ◌∷◌, ◌++◌, length, take, set, Some, None, Ok, Err, Option, Result, sym, refl, ap, ◌∙◌, arith}
+use Rattle.std.proofs.Common.{◌≡◌, ℕ, cond, not, leb, List, [], ◌∷◌, ◌++◌, length, take, set, Some, None, Ok, Option, Result, sym, refl, ap, ◌∙◌}
 use Rattle.recording.specs.declared.refusal.Field.{Field}
 use Rattle.recording.specs.declared.refusal.Field.TheVariants.{Time, Frequency, Power}
 use Rattle.recording.specs.declared.refusal.Reason.{Reason}
@@ -13,8 +13,8 @@ use Rattle.timeline.specs.Checks.{Check, first_of}
 use Rattle.timeline.specs.Entries.{Kind}
 use Rattle.timeline.specs.Samples.{samples}
 use Rattle.timeline.specs.Orders.{is_sound, time_before, time_after}
-use Rattle.timeline.specs.Faults.{other_table, is_field, outside_limits, full, out_of_order, append_faults, put_checks, amend_checks, strike_checks}
-use Rattle.timeline.specs.Timelines.{answered, written, Outcome, Puts, Amends}
+use Rattle.timeline.specs.Faults.{other_table, is_field, outside_limits, full, out_of_order, append_faults, put_checks, amend_checks}
+use Rattle.timeline.specs.Timelines.{Outcome, Puts, Amends}
 use Rattle.timeline.proofs.Checks.{Told, the_first}
 use Rattle.timeline.proofs.Orders.{decides_leb, decides_misplaced}
 use Rattle.timeline.proofs.Faults.{told_table, told_append, told_limits}
@@ -74,32 +74,3 @@ amend_reading_lem n t i r s a new e p =
     (ap (replaced (take n t) i) (sym e))
     (told_table samples n t (amend_reasons (take n t) i r) (told_amend (take n t) i r))
     p.outcome
-
--- ---- a reading with a field outside its limits
-refused_outcome : (cs : List (Check Reason)) (why : Reason) (place : ℕ) (xs old : List Sample) → Told cs → first_of cs ≡ Some why → Outcome cs (λ w. refusal w place 0) xs old (Err (refusal why place 0)) old
-refused_outcome cs why place xs old t e =
-    record { first = the_first cs t; answer = ap (answered (λ w. refusal w place 0) (length xs)) (sym e); table = ap (λ (o : Option Reason). written o xs old) (sym e) }
-
-more_some : (a b : Bool) (rest : Option Reason) (why : Reason) → Some why ≡ cond a (Some OtherTable) (cond b (Some BeyondCount) None) → cond a (Some OtherTable) (cond b (Some BeyondCount) rest) ≡ Some why
-more_some true b rest why h = sym h
-more_some false true rest why h = sym h
-more_some false false rest why h = let z : ◌≡◌ {A = ℕ} 0 1 = cc in absurd (omega arith)
-
-more_none : (a b : Bool) (rest : Option Reason) → None ≡ cond a (Some OtherTable) (cond b (Some BeyondCount) None) → cond a (Some OtherTable) (cond b (Some BeyondCount) rest) ≡ rest
-more_none true b rest h = let z : ◌≡◌ {A = ℕ} 0 1 = cc in absurd (omega arith)
-more_none false true rest h = let z : ◌≡◌ {A = ℕ} 0 1 = cc in absurd (omega arith)
-more_none false false rest h = refl
-
-module _ (n : ℕ) (t : List Sample) (i : ℕ) (r : Reading) where
-  -- refused as a strike would be
-  pub amend_as_strike : (why : Reason) → Some why ≡ first_of (strike_checks samples n t i) → AmendsReading n t i r (Err (refusal why i 0)) t
-  amend_as_strike why h =
-      refused_outcome (other_table samples n t ∷ amend_reasons (take n t) i r) why i (amended (take n t) i r) t (told_table samples n t (amend_reasons (take n t) i r) (told_amend (take n t) i r))
-      (more_some (not (is_sound samples n t)) (leb (length (take n t)) i) (first_of (outside_limits readings r (out_of_order (time_before samples (take n t) i) (time_after samples (take n t) i) (time_of r) ∷ []))) why h)
-
-  -- else for its field
-  pub amend_field : (f : Field) → sampled r ≡ Err f → None ≡ first_of (strike_checks samples n t i) → AmendsReading n t i r (Err (refusal (OutsideLimits f) i 0)) t
-  amend_field f e h =
-      let next = out_of_order (time_before samples (take n t) i) (time_after samples (take n t) i) (time_of r) ∷ [] in
-      refused_outcome (other_table samples n t ∷ amend_reasons (take n t) i r) (OutsideLimits f) i (amended (take n t) i r) t (told_table samples n t (amend_reasons (take n t) i r) (told_amend (take n t) i r))
-      (more_none (not (is_sound samples n t)) (leb (length (take n t)) i) (first_of (outside_limits readings r next)) h ∙ field_first readings r f next (ap field_outside e))

@@ -57,8 +57,7 @@ load_record places xs ms = kept (record_fault places xs ms) (xs ++ all_samples m
 
 -- a count, unless there is a refusal
 abbrev pub counted : ℕ → Option Refusal → Result ℕ Refusal
-counted n None = Ok n
-counted n (Some f) = Err f
+counted n fault = answered (λ f. f) n fault
 
 abbrev pub load_answer : ℕ → List Sample → List Member → Result ℕ Refusal
 load_answer places xs ms = counted (length (xs ++ all_samples ms)) (record_fault places xs ms)

@@ -1,5 +1,6 @@
 -- How a docket and its table stand, and what each call leaves of them.
 use Rattle.std.specs.Prelude.{◌≡◌, ℕ, ◌≤◌, cond, List, ◌∷◌, ◌++◌, length, take, Some, None, Ok, Err, Option, Result}
+use Rattle.std.specs.Result.{result_unwrap_or}
 use Rattle.recording.specs.declared.refusal.Reason.TheVariants.{OtherTable, NoDisturbance}
 use Rattle.recording.specs.declared.refusal.Refusal.{Refusal}
 use Rattle.recording.specs.declared.sample.Sample.{Sample}
@@ -9,7 +10,7 @@ use Rattle.recording.specs.Refusals.{refusal}
 use Rattle.timeline.specs.Samples.{samples}
 use Rattle.timeline.specs.Orders.{is_sound}
 use Rattle.timeline.specs.Faults.{other_table}
-use Rattle.timeline.specs.Timelines.{Outcome, over}
+use Rattle.timeline.specs.Timelines.{Outcome, written}
 use Rattle.disturbance.specs.declared.disturbance.Disturbance.{Disturbance}
 use Rattle.disturbance.specs.Disturbance.{disturbance_of}
 use Rattle.docket.specs.declared.docket.OpenDocket.{OpenDocket}
@@ -37,11 +38,14 @@ abbrev pub LeadsEither : {places : ℕ} {a : Accepted} → History places a → 
 LeadsEither h (Ok docket) table = LeadsClosed h docket table
 LeadsEither h (Err k) table = LeadsOpen h k.docket table
 
+-- a call on an open docket and a table: whatever history leads to them, the history with the call leads to them as they are left, and the answer is the accepted record's
+abbrev pub Extends : (before : OpenDocket) (table : List Sample) (after : OpenDocket) (left : List Sample) (r : Result ℕ Refusal) {then : List Sample → List Sample} → ((xs : List Sample) → History (length table) (opened xs) → History (length table) (opened (then xs))) → (List Sample → Result ℕ Refusal) → Type 0
+Extends before table after left r call answer = (xs : List Sample) (h : History (length table) (opened xs)) → LeadsOpen h before table → LeadsOpen (call xs h) after left × (r ≡ answer xs)
+
 -- ---- what a call answers and leaves, with any table
 -- the count after an answer
 abbrev pub count_after : Result ℕ Refusal → ℕ → ℕ
-count_after (Ok n) old = n
-count_after (Err f) old = old
+count_after r old = result_unwrap_or r old
 
 -- put of a reading
 abbrev pub PutsReading : ℕ → List Sample → Reading → Result ℕ Refusal → List Sample → Type 0
@@ -57,8 +61,7 @@ table_fault count table ms = cond (is_sound samples count table) (record_fault (
 
 -- samples laid over the table's front, unless there is a refusal
 abbrev pub laid : Option Refusal → List Sample → List Sample → List Sample
-laid None xs table = over xs table
-laid (Some f) xs table = table
+laid fault xs table = written fault xs table
 
 pub record LoadsMembers (count : ℕ) (table : List Sample) (ms : List Member) (r : Result ℕ Refusal) (new : List Sample) : Type 0 where
   pub answer : r ≡ counted (length (take count table ++ all_samples ms)) (table_fault count table ms)

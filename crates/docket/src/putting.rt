@@ -4,7 +4,7 @@ ghost use Rattle.docket.specs.Dockets.{PutsReading, AmendsReading};
 use recording::reading::Reading;
 use recording::refusal::{Reason, Refusal};
 use recording::sample::Sample;
-use timeline::fault::strike_fault;
+use timeline::fault::check_strike;
 use timeline::order::is_sound;
 use timeline::timeline::Timeline;
 
@@ -25,11 +25,7 @@ pub(crate) fn put_reading(
             } else {
                 Reason::OtherTable
             };
-            Err(Refusal {
-                reason,
-                place: count,
-                position: 0,
-            })
+            Err(reason.at(count))
         }
     }
 }
@@ -46,15 +42,8 @@ pub(crate) fn amend_reading(
     match reading.sample() {
         Ok(sample) => Timeline { table, count }.amend(place, sample),
         Err(field) => {
-            let reason = match strike_fault(table, count, place) {
-                Some(reason) => reason,
-                None => Reason::OutsideLimits(field),
-            };
-            Err(Refusal {
-                reason,
-                place,
-                position: 0,
-            })
+            let refused = check_strike(table, count, place).and(Err(Reason::OutsideLimits(field)));
+            refused.map_err(|reason| reason.at(place))
         }
     }
 }

@@ -4,7 +4,6 @@ use recording::reading::{Reading, WholeReading};
 use recording::refusal::Refusal;
 use recording::sample::Sample;
 use std::process::Abort;
-use std::test::Fail;
 
 // What a caller's table may hold before it is used: no sample, with every field outside its limits.
 pub const BLANK: Sample = Sample {
@@ -27,56 +26,40 @@ pub(crate) fn steady(time: u32) -> Reading {
 }
 
 // The call was accepted, and answers this count.
-pub(crate) fn counts(
-    rt: &impl Abort,
-    answer: Result<usize, Refusal>,
-    count: usize,
-) -> Result<(), Fail> {
-    match answer {
-        Ok(new) => {
-            assert_eq!(rt; new, count);
-            Ok(())
-        },
-        Err(refusal) => {
-            assert_eq!(rt; refusal.number(), 0, "a count was expected");
-            Ok(())
-        },
-    }
+pub(crate) fn counts(rt: &impl Abort, answer: Result<usize, Refusal>, count: usize) {
+    assert_eq!(rt; answer, Ok(count));
 }
 
-// The refusal has this number and place; it names no byte and no field.
-pub(crate) fn is_refusal(
-    rt: &impl Abort,
-    refusal: Refusal,
-    number: u8,
-    place: usize,
-) -> Result<(), Fail> {
-    is_refusal_in(rt, refusal, number, place, 0, 0)
-}
-
-// The refusal has this number, place, byte position and field.
-pub(crate) fn is_refusal_in(
-    rt: &impl Abort,
-    refusal: Refusal,
+// What a refusal tells, in plain numbers.
+#[derive(Clone, Copy, Debug, PartialEq)]
+pub(crate) struct Told {
     number: u8,
     place: usize,
     position: usize,
     field: u8,
-) -> Result<(), Fail> {
-    assert_eq!(rt; refusal.number(), number);
-    assert_eq!(rt; refusal.place, place, "the place");
-    assert_eq!(rt; refusal.position, position, "the byte position");
-    assert_eq!(rt; refusal.field(), field, "the field");
-    Ok(())
+}
+
+pub(crate) fn told(refusal: Refusal) -> Told {
+    Told {
+        number: refusal.number(),
+        place: refusal.place,
+        position: refusal.position,
+        field: refusal.field(),
+    }
+}
+
+// What a refusal tells that names no byte and no field.
+pub(crate) fn plain(number: u8, place: usize) -> Told {
+    Told {
+        number,
+        place,
+        position: 0,
+        field: 0,
+    }
 }
 
 // The call was refused, with no byte and no field to name.
-pub(crate) fn refused(
-    rt: &impl Abort,
-    answer: Result<usize, Refusal>,
-    number: u8,
-    place: usize,
-) -> Result<(), Fail> {
+pub(crate) fn refused(rt: &impl Abort, answer: Result<usize, Refusal>, number: u8, place: usize) {
     refused_in(rt, answer, number, place, 0, 0)
 }
 
@@ -88,10 +71,21 @@ pub(crate) fn refused_in(
     place: usize,
     position: usize,
     field: u8,
-) -> Result<(), Fail> {
-    match answer {
-        Ok(_) => Err(Fail::new("a refusal was expected")),
-        Err(refusal) => is_refusal_in(rt, refusal, number, place, position, field),
+) {
+    let expected = Told {
+        number,
+        place,
+        position,
+        field,
+    };
+    assert_eq!(rt; answer.map_err(told), Err(expected));
+}
+
+pub(crate) fn sample(time: u32, frequency: u32, power: i32) -> Sample {
+    Sample {
+        time,
+        frequency,
+        power,
     }
 }
 
@@ -103,38 +97,25 @@ pub(crate) fn holds(
     time: u32,
     frequency: u32,
     power: i32,
-) -> Result<(), Fail> {
-    match table.get(place) {
-        Some(sample) => {
-            assert_eq!(rt; sample.time, time);
-            assert_eq!(rt; sample.frequency, frequency);
-            assert_eq!(rt; sample.power, power);
-            Ok(())
-        }
-        None => Err(Fail::new("the table has no such place")),
-    }
+) {
+    assert_eq!(rt; table.get(place), Some(&sample(time, frequency, power)));
 }
 
 // The table holds a sample of this time at the place, that of a steady reading.
-pub(crate) fn holds_steady(
-    rt: &impl Abort,
-    table: &[Sample],
-    place: usize,
-    time: u32,
-) -> Result<(), Fail> {
+pub(crate) fn holds_steady(rt: &impl Abort, table: &[Sample], place: usize, time: u32) {
     holds(rt, table, place, time, 50_000, 0)
 }
 
 // The place was never written.
-pub(crate) fn is_blank(rt: &impl Abort, table: &[Sample], place: usize) -> Result<(), Fail> {
+pub(crate) fn is_blank(rt: &impl Abort, table: &[Sample], place: usize) {
     holds(rt, table, place, u32::MAX, 0, i32::MIN)
 }
 
 // A docket with steady samples at 100, 200 and 300 ms.
-pub(crate) fn three(rt: &impl Abort, table: &mut [Sample]) -> Result<OpenDocket, Fail> {
+pub(crate) fn three(rt: &impl Abort, table: &mut [Sample]) -> OpenDocket {
     let mut docket = OpenDocket::new();
-    counts(rt, docket.put(table, steady(100)), 1)?;
-    counts(rt, docket.put(table, steady(200)), 2)?;
-    counts(rt, docket.put(table, steady(300)), 3)?;
-    Ok(docket)
+    counts(rt, docket.put(table, steady(100)), 1);
+    counts(rt, docket.put(table, steady(200)), 2);
+    counts(rt, docket.put(table, steady(300)), 3);
+    docket
 }

@@ -1,5 +1,5 @@
 -- A level value stays what it is: its mean, the line through it and its trapezoid average.
-use Rattle.std.proofs.Common.{◌≡◌, ℕ, ◌+◌, ◌-◌, ◌*◌, ◌<◌, ◌≤◌, max, ltb, List, [], ◌∷◌, length, pos, refl, arith}
+use Rattle.std.proofs.Common.{◌≡◌, ℕ, ◌+◌, ◌-◌, ◌*◌, ◌<◌, ◌≤◌, ltb, List, [], ◌∷◌, length, pos, refl, arith}
 use Rattle.std.proofs.lemmas.Bool.{cond_both}
 use Rattle.exact.specs.Fractions.{Fraction, whole, ◌⊕◌, ◌·◌, ◌÷◌, Equal}
 use Rattle.exact.specs.Lines.{straight, line_from, line}
@@ -7,6 +7,7 @@ use Rattle.exact.specs.Averages.{sum_of, mean, trapezoids, average, Climbs, Leve
 use Rattle.exact.proofs.Naturals.{reads_self, reads_whole, reads-⊕, reads-⊖, reads-·, reads-÷}
 use Rattle.exact.proofs.Near.{Near, near_refl, near_trans, near-⊕, near-÷, near_same, near_equal}
 use Rattle.exact.proofs.NearLines.{gaps}
+use Rattle.exact.proofs.Order.{reads_by}
 
 -- ---- times that do not fall
 pub climbs_upto : {A : Type 0} (time : A → ℕ) (t : ℕ) (ks : List A) (t' : ℕ) → Climbs time t ks t' → t ≤ t'
@@ -32,7 +33,7 @@ module _ (v : Fraction) where
   twice k = near_same (reads-· k (reads-⊕ reads_self reads_self)) (reads-· (2 * k) reads_self) (omega arith)
 
   times_over : (k : ℕ) → 0 < k → Near 0 (v · k ÷ k) v
-  times_over k p = let e : max 1 k ≡ k = omega arith in near_same (reads-÷ k (reads-· k reads_self)) reads_self (rw e (omega arith))
+  times_over k p = near_same (reads_by k p (reads-· k reads_self)) reads_self (omega arith)
 
   flat : (t t' u : ℕ) → Near 0 (straight t v t' v u) v
   flat t t' u = near_same (reads-⊕ reads_self (reads-÷ (t' - t) (reads-· (u - t) (reads-⊖ reads_self reads_self)))) reads_self (omega arith)

@@ -1,6 +1,6 @@
 -- Fractions by natural numbers, over which arithmetic is decided: `Reads x g l b` says that x is (g - l) / b.
-use Rattle.std.proofs.Common.{◌≡◌, ℕ, ◌+◌, ◌*◌, ◌<◌, ◌≤◌, max, Bool, true, false, T, ℤ, pos, ◌*ℤ◌, sym, refl, ap, subst, arith}
-use lib.Signed.{le_z_yes}
+use Rattle.std.proofs.Common.{◌≡◌, ℕ, ◌+◌, ◌*◌, ◌<◌, ◌≤◌, max, true, ℤ, pos, ◌*ℤ◌, refl, ap, arith}
+use Rattle.std.proofs.lemmas.Bool.{true_from_ne_false}
 use borrow.Author.Differences.{up, down, ints}
 use Rattle.exact.specs.Fractions.{Fraction, ◌⊕◌, ◌⊖◌, ◌·◌, ◌÷◌, ◌≼◌, ◌≺◌, whole, frac, at_most}
 
@@ -56,12 +56,8 @@ module _ {x y : Fraction} {g l b g' l' b' : ℕ} (h : Reads x g l b) (h' : Reads
 -- ---- the order as a test
 pub at_most_yes : (x y : Fraction) → at_most x y ≡ true → x ≼ y
 unfolding at_most
-at_most_yes x y e = record { le = le_z_yes (subst T (sym e) tt) }
-
-passes : (b : Bool) → T b → b ≡ true
-passes true t = refl
-passes false t = absurd t
+at_most_yes x y e = record { le = omega (arith, ints) }
 
 pub at_most_so : (x y : Fraction) → x ≼ y → at_most x y ≡ true
 unfolding at_most
-at_most_so x y h = passes _ h.le.le
+at_most_so x y h = true_from_ne_false _ (λ e. omega (arith, ints, h.le))

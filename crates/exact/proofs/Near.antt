@@ -126,9 +126,6 @@ pub record Near (n : ℕ) (x y : Fraction) : Type 0 where
 pub near_refl : {x : Fraction} → Near 0 x x
 near_refl = record { over = under_refl; under = under_refl }
 
-pub near_sym : {n : ℕ} {x y : Fraction} → Near n x y → Near n y x
-near_sym h = record { over = h.under; under = h.over }
-
 pub near_more : {n m : ℕ} {x y : Fraction} → n ≤ m → Near n x y → Near m x y
 near_more le h = record { over = under_more le h.over; under = under_more le h.under }
 

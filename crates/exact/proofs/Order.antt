@@ -1,19 +1,17 @@
 -- The order of fractions: it is total, it is passed on, and what is read by naturals can be read out of it again.
-use Rattle.std.proofs.Common.{◌≡◌, ℕ, ◌+◌, ◌*◌, ◌<◌, ◌≤◌, max, ◌⊎◌, ℤ, subst, inl, inr, ⊎_elim, mul-le-mul_right, lt_of_mul-lt-mul_right, mul-lt-mul_of_pos_right, le_of_mul-le-mul_right, arith}
+use Rattle.std.proofs.Common.{ℕ, ◌+◌, ◌*◌, ◌<◌, ◌≤◌, ◌⊎◌, ℤ, subst, inl, inr, ⊎_elim, mul-le-mul_right, lt_of_mul-lt-mul_right, mul-lt-mul_of_pos_right, le_of_mul-le-mul_right, arith}
 use borrow.Author.Differences.{up, down}
 use Rattle.std.proofs.lemmas.Bool.{cases_lt}
+use Rattle.std.proofs.Math.Nat.{max-eq_right}
 use Rattle.exact.specs.Fractions.{Fraction, frac, ◌÷◌, ◌≼◌, ◌≺◌}
 use Rattle.exact.proofs.Naturals.{Reads, reads_self, reads_frac, reads-÷, ≼-in, ≼-out, ≺-in}
 use Rattle.exact.proofs.Lines.{≺-out}
 
-max_one : (d : ℕ) → 0 < d → max 1 d ≡ d
-max_one d h = omega arith
-
 pub reads_over : (z : ℤ) (d : ℕ) → 0 < d → Reads (frac z d) (up z) (down z) d
-reads_over z d h = subst (λ (b : ℕ). Reads (frac z d) (up z) (down z) b) (max_one d h) (reads_frac z d)
+reads_over z d h = subst (λ (b : ℕ). Reads (frac z d) (up z) (down z) b) (max-eq_right h) (reads_frac z d)
 
 pub reads_by : {x : Fraction} {g l b : ℕ} (k : ℕ) → 0 < k → Reads x g l b → Reads (x ÷ k) g l (b * k)
-reads_by {x} {g} {l} {b} k h r = subst (λ (e : ℕ). Reads (x ÷ k) g l (b * e)) (max_one k h) (reads-÷ k r)
+reads_by {x} {g} {l} {b} k h r = subst (λ (e : ℕ). Reads (x ÷ k) g l (b * e)) (max-eq_right h) (reads-÷ k r)
 
 -- over opaque naturals: if a/b ≤ c/d ≤ e/f, each read as a difference, then a/b ≤ e/f
 le_chain : (g l b g' l' b' g'' l'' b'' : ℕ) → 0 < b' → g * b' + l' * b ≤ g' * b + l * b' → g' * b'' + l'' * b' ≤ g'' * b' + l' * b'' → g * b'' + l'' * b ≤ g'' * b + l * b''

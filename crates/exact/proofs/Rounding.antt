@@ -3,9 +3,9 @@ use Rattle.std.proofs.Common.{◌≡◌, ℕ, ◌+◌, ◌*◌, ◌<◌, ◌≤�
 use native.Mathlib.Nat.{lt-div-mul-add}
 use Rattle.std.specs.Int.{int_div_euclid}
 use borrow.Author.Differences.{up, down, ints, sum_is_lem, same_in}
-use Rattle.exact.specs.Fractions.{Fraction, ◌⊕◌, ◌·◌, ◌≼◌, ◌≺◌, whole, frac}
+use Rattle.exact.specs.Fractions.{Fraction, ◌⊕◌, ◌·◌, ◌≼◌, whole, frac}
 use Rattle.exact.specs.Rounding.{HalfUp, half_up, and_half, Rounds}
-use Rattle.exact.proofs.Naturals.{Reads, reads_self, reads-⊕, reads_whole, reads_frac, reads-·, reads_whole_times, ≼-in, ≼-out, ≺-in}
+use Rattle.exact.proofs.Naturals.{Reads, reads_self, reads-⊕, reads_whole, reads_frac, reads-·, reads_whole_times, ≼-in, ≼-out}
 use Rattle.exact.proofs.Near.{Near, under_in}
 
 -- rounded down
@@ -51,17 +51,18 @@ pub half_up_whole : (x : Fraction) (z : ℤ) → half_up (x ⊕ whole z) ≡ hal
 half_up_whole x z =
     half_up_from (half_up x +ℤ z) (reads-⊕ reads_self (reads_whole z)) (omega (arith, x.solid)) (omega (arith, nearest x, ap (λ (n : ℕ). n * x.bottom) (sum_is_lem (half_up x) z)))
 
+-- a fraction and one half, by naturals
+reads_half : (x : Fraction) → Reads (and_half x) (up x.top * 2 + 1 * x.bottom) (down x.top * 2 + 0 * x.bottom) (x.bottom * 2)
+reads_half x = reads-⊕ reads_self (reads_frac (pos 1) 2)
+
 pub half_up_below : (x : Fraction) → whole (half_up x) ≼ and_half x
-half_up_below x = ≼-in (reads_whole (half_up x)) (reads-⊕ reads_self (reads_frac (pos 1) 2)) (omega (arith, nearest x))
+half_up_below x = ≼-in (reads_whole (half_up x)) (reads_half x) (omega (arith, nearest x))
 
 pub half_up_greatest : (x : Fraction) (z : ℤ) → whole z ≼ and_half x → z ≤ℤ half_up x
 half_up_greatest x z h =
-    let k = ≼-out (reads_whole z) (reads-⊕ reads_self (reads_frac (pos 1) 2)) h in
+    let k = ≼-out (reads_whole z) (reads_half x) h in
     let lt : up z + down (half_up x) < up (half_up x) + down z + 1 = lt_of_mul-lt-mul_right x.bottom (omega (arith, nearest x)) in
     omega (arith, ints)
-
-pub half_up_above : (x : Fraction) → and_half x ≺ whole (half_up x) ⊕ whole (pos 1)
-half_up_above x = ≺-in (reads-⊕ reads_self (reads_frac (pos 1) 2)) (reads-⊕ (reads_whole (half_up x)) (reads_whole (pos 1))) (omega (arith, nearest x))
 
 -- at most one half away, in hundredths
 pub half_up_near : (x : Fraction) → Near 50 (whole (half_up x)) x
@@ -88,11 +89,11 @@ half_up_only x r h =
 
 -- ---- whole limits of a fraction are limits of its half-up
 pub half_up_low : (l : ℤ) (x : Fraction) (r : ℤ) → HalfUp x r → whole l ≼ x → l ≤ℤ r
-half_up_low l x r u h = u.greatest l (≼-in (reads_whole l) (reads-⊕ reads_self (reads_frac (pos 1) 2)) (omega (arith, ≼-out (reads_whole l) (reads_self {x = x}) h)))
+half_up_low l x r u h = u.greatest l (≼-in (reads_whole l) (reads_half x) (omega (arith, ≼-out (reads_whole l) (reads_self {x = x}) h)))
 
 pub half_up_high : (h : ℤ) (x : Fraction) (r : ℤ) → HalfUp x r → x ≼ whole h → r ≤ℤ h
 half_up_high h x r u p =
-    let k = ≼-out (reads_whole r) (reads-⊕ reads_self (reads_frac (pos 1) 2)) u.not_above in
+    let k = ≼-out (reads_whole r) (reads_half x) u.not_above in
     let q = ≼-out (reads_self {x = x}) (reads_whole h) p in
     let o = x.solid in
     let lt : up r + down h < up h + down r + 1 = lt_of_mul-lt-mul_right x.bottom (omega arith) in

@@ -1,5 +1,5 @@
 -- Whole numbers in the place of fractions: `Is x n d` says that x is n over d, however it is written. How code on whole numbers finds a fraction's half-up.
-use Rattle.std.proofs.Common.{◌≡◌, ℕ, ◌+◌, ◌-◌, ◌*◌, ◌<◌, ◌≤◌, max, Bool, true, false, cond, List, [], ◌∷◌, length, ℤ, pos, ◌+ℤ◌, ◌-ℤ◌, ◌*ℤ◌, neg_ℤ, refl, ap, ◌∙◌, subst, mul-pos, arith}
+use Rattle.std.proofs.Common.{◌≡◌, ℕ, ◌+◌, ◌-◌, ◌*◌, ◌<◌, ◌≤◌, Bool, true, false, cond, List, [], ◌∷◌, length, ℤ, pos, ◌+ℤ◌, ◌-ℤ◌, ◌*ℤ◌, neg_ℤ, refl, ap, ◌∙◌, subst, mul-pos, arith}
 use lib.Signed.{le_z, lt_z}
 use Rattle.std.specs.Int.{int_min, int_max}
 use borrow.Author.Differences.{up, down, ints, sum_is_lem, neg_is, product_is}
@@ -9,9 +9,10 @@ use Rattle.exact.specs.Lines.{straight}
 use Rattle.exact.specs.Averages.{sum_of, mean, trapezoids, average}
 use Rattle.exact.specs.Wholes.{Is, twice_area}
 use Rattle.exact.specs.Limits.{Within}
-use Rattle.exact.proofs.Naturals.{Reads, reads_self, reads-⊕, reads-⊖, reads-·, reads-÷, reads_whole, reads_frac, ≼-in}
+use Rattle.exact.proofs.Naturals.{Reads, reads_self, reads-⊕, reads-⊖, reads-·, reads_whole, ≼-in}
 use Rattle.exact.proofs.Rounding.{half_up_value, half_up_from}
 use Rattle.exact.proofs.Lines.{through_ends}
+use Rattle.exact.proofs.Order.{reads_over, reads_by}
 use Rattle.exact.proofs.Limits.{within_more, within-+, within-*}
 
 -- from any reading of x
@@ -41,12 +42,12 @@ pub is_more : {x : Fraction} {n : ℤ} {d : ℕ} (k : ℕ) → 0 < k → Is x n 
 is_more {x} {n} {d} k p h = is_read (n *ℤ pos k) (d * k) reads_self (mul-pos h.above p) (omega (arith, ap (λ (m : ℕ). m * k) h.is, ap (λ (m : ℕ). m * x.bottom) (product_is n (pos k)).0, ap (λ (m : ℕ). m * x.bottom) (product_is n (pos k)).1))
 
 pub is-÷ : {x : Fraction} {n : ℤ} {d : ℕ} (k : ℕ) → 0 < k → Is x n d → Is (x ÷ k) n (d * k)
-is-÷ {x} {n} {d} k p h = let e : max 1 k ≡ k = omega arith in
-    is_read n (d * k) (reads-÷ k reads_self) (mul-pos h.above p) (rw e (omega (arith, ap (λ (m : ℕ). m * k) h.is)))
+is-÷ {x} {n} {d} k p h = is_read n (d * k) (reads_by k p reads_self) (mul-pos h.above p) (omega (arith, ap (λ (m : ℕ). m * k) h.is))
 
 pub half_up_of : {x : Fraction} {n : ℤ} {d : ℕ} → Is x n d → half_up x ≡ half_up (frac n d)
-half_up_of {x} {n} {d} h = let p = h.above in let e : max 1 d ≡ d = omega arith in
-    half_up_value x (frac n d) (≼-in reads_self (reads_frac n d) (rw e (omega (arith, h.is)))) (≼-in (reads_frac n d) reads_self (rw e (omega (arith, h.is))))
+half_up_of {x} {n} {d} h =
+    let r = reads_over n d h.above in
+    half_up_value x (frac n d) (≼-in reads_self r (omega (arith, h.is))) (≼-in r reads_self (omega (arith, h.is)))
 
 -- ---- the mean of entries whose sum is n over 1
 pub is_none : {X : Type 0} (f : X → Fraction) → Is (sum_of f []) (pos 0) 1

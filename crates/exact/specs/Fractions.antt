@@ -2,7 +2,8 @@
 -- `whole z` is z, `frac n d` is n over d; x ⊕ y and x ⊖ y are sum and difference, x · k is x times the whole number k, x ÷ k is x divided by it.
 -- x ≼ y says that x is at most y, x ≺ y that it is less.
 use Rattle.std.specs.Prelude.{ℕ, ◌*◌, ◌<◌, max, Bool, cond, ℤ, pos, ◌+ℤ◌, ◌-ℤ◌, ◌*ℤ◌, ◌≤ℤ◌, ◌<ℤ◌, int_le}
-use Rattle.std.proofs.Common.{mul-pos, arith}
+use Rattle.std.proofs.Common.{mul-pos, lit<}
+use Rattle.std.proofs.Math.Nat.{le-max_left}
 
 pub record Fraction : Type 0 where
   pub top : ℤ
@@ -14,10 +15,10 @@ infixl 70 ◌·◌ ◌÷◌
 infix 50 ◌≼◌ ◌≺◌
 -- n over d, for d above 0
 unfoldable pub frac : ℤ → ℕ → Fraction
-frac n d = record { top = n; bottom = max 1 d; solid = omega arith }
+frac n d = record { top = n; bottom = max 1 d; solid = le-max_left 1 d }
 
 unfoldable pub whole : ℤ → Fraction
-whole z = record { top = z; bottom = 1; solid = omega arith }
+whole z = record { top = z; bottom = 1; solid = lit< tt }
 
 unfoldable pub ◌⊕◌ : Fraction → Fraction → Fraction
 x ⊕ y = record { top = x.top *ℤ pos y.bottom +ℤ y.top *ℤ pos x.bottom; bottom = x.bottom * y.bottom; solid = mul-pos x.solid y.solid }
@@ -30,7 +31,7 @@ x · k = record { top = x.top *ℤ pos k; bottom = x.bottom; solid = x.solid }
 
 -- for k above 0
 unfoldable pub ◌÷◌ : Fraction → ℕ → Fraction
-x ÷ k = record { top = x.top; bottom = x.bottom * max 1 k; solid = mul-pos x.solid (omega arith) }
+x ÷ k = record { top = x.top; bottom = x.bottom * max 1 k; solid = mul-pos x.solid (le-max_left 1 k) }
 
 -- the order, by cross-multiplication
 pub record ◌≼◌ (x y : Fraction) : Type 0 where

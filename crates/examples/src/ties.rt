@@ -1,22 +1,28 @@
 // Powers that lie half a watt between two whole numbers: the greater one is taken.
 ghost use Rattle.std.specs.Prelude.{◌≡◌, true, false, pos, negsuc, Ok};
-ghost use Rattle.examples.specs.Ties.{Tied, sample_of};
+ghost use Rattle.examples.specs.Ties.{Tied, reading_of, sample_of};
 
 use recording::reading::{FloatingReading, Reading};
 use recording::refusal::Field;
 use recording::sample::Sample;
+
+// 50 Hz and this power in MW, at 0 ms.
+fn reading_of(power: f32) -> Reading
+    ensures { result ≡ reading_of power }
+{
+    Reading::Floating(FloatingReading {
+        time: 0,
+        frequency: 50.0,
+        power,
+    })
+}
 
 // 0.0078125 MW is 7,813 W, and nothing else.
 pub fn tie_up() -> Result<Sample, Field>
     ensures rule { Tied false (pos 7813) }
     ensures value { result ≡ Ok (sample_of (pos 7813)) }
 {
-    Reading::Floating(FloatingReading {
-        time: 0,
-        frequency: 50.0,
-        power: 0.0078125,
-    })
-    .sample()
+    reading_of(0.0078125).sample()
 }
 
 // -0.0078125 MW is -7,812 W, and nothing else.
@@ -24,10 +30,5 @@ pub fn tie_down() -> Result<Sample, Field>
     ensures rule { Tied true (negsuc 7811) }
     ensures value { result ≡ Ok (sample_of (negsuc 7811)) }
 {
-    Reading::Floating(FloatingReading {
-        time: 0,
-        frequency: 50.0,
-        power: -0.0078125,
-    })
-    .sample()
+    reading_of(-0.0078125).sample()
 }

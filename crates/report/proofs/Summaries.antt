@@ -137,8 +137,9 @@ module _ (t : List Sample) (ms : List Member) (r : Result ℕ Refusal) (d : Open
     then_closed_lem x says = ap (then_closed (taken (length t) ms)) (sym l.answer ∙ is) ∙ close_says_lem x says
 
     -- close is refused
-    pub close_refused : (x : Result ClosedDocket Kept) (k : Kept) → Closing d now x → x ≡ Err k → Summarizes (length t) ms (Err k.refusal)
-    close_refused x k says err = then_closed_lem x says ∙ ap close_says err
+    pub close_refused : (x : Result ClosedDocket Kept) (k : Kept) (o : Result Summary Refusal) → Closing d now x → x ≡ Err k → IsErrAnd o (λ e. e ≡ k.refusal) → Summarizes (length t) ms o
+    close_refused x k (Ok s) says err h = absurd h
+    close_refused x k (Err g) says err h = then_closed_lem x says ∙ ap close_says err ∙ ap Err (sym h)
 
     -- a disturbance that close answers is told with the recovery from it
     pub close_told : (x : Result ClosedDocket Kept) (k : ClosedDocket) (e : Disturbance) (o : Option ℕ) → Closing d now x → x ≡ Ok k → e ≡ k.disturbance → FirstOrNone (Recovered (take count now) e) o → Summarizes (length t) ms (Ok (told count e o))

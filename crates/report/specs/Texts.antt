@@ -3,13 +3,12 @@ use Rattle.std.specs.Prelude.{ℕ, List, ◌++◌, Some, None, Ok, Err, codes, d
 use Rattle.recording.specs.declared.refusal.Refusal.{Refusal}
 use Rattle.recording.specs.Refusals.{listed}
 use Rattle.disturbance.specs.declared.direction.Direction.{Direction}
-use Rattle.disturbance.specs.declared.direction.Direction.TheVariants.{Low, High}
+use Rattle.disturbance.specs.Direction.{word}
 use Rattle.report.specs.declared.summary.Summary.{Summary}
 
 -- the side to which the disturbance left the band
 abbrev pub direction_text : Direction → List ℕ
-direction_text Low = codes "low"
-direction_text High = codes "high"
+direction_text d = word d
 
 -- the recovery time, or "none"
 abbrev pub recovery_text : Option ℕ → List ℕ

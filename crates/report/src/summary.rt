@@ -42,16 +42,12 @@ pub fn summarize<R: Recording>(table: &mut [Sample], recording: &R) -> Result<Su
 {
     let mut docket = OpenDocket::new();
     let count = docket.load(table, recording)?;
-    match docket.close(table) {
-        Ok(closed) => {
-            let disturbance = closed.disturbance();
-            let recovery = counted_recovery(table, count, disturbance);
-            Ok(Summary {
-                count,
-                disturbance,
-                recovery,
-            })
-        }
-        Err(kept) => Err(kept.refusal),
-    }
+    let closed = docket.close(table)?;
+    let disturbance = closed.disturbance();
+    let recovery = counted_recovery(table, count, disturbance);
+    Ok(Summary {
+        count,
+        disturbance,
+        recovery,
+    })
 }

@@ -1,6 +1,7 @@
 -- The variable rule: its weight as a rule about fractions, and the factor that has that value.
-use Rattle.std.specs.Prelude.{◌≡◌, ℕ, ◌+◌, ◌-◌, ◌*◌, ◌<◌, min, max, cond, ℤ, pos, negsuc, ◌≤ℤ◌, nat_le}
-use Rattle.std.proofs.Common.{arith}
+use Rattle.std.specs.Prelude.{◌≡◌, ℕ, ◌+◌, ◌-◌, ◌*◌, ◌<◌, ◌≤◌, min, max, cond, ℤ, pos, negsuc, ◌≤ℤ◌, nat_le}
+use Rattle.std.proofs.Common.{lit<, mul_comm, subst}
+use Rattle.std.proofs.Math.Nat.{le-max_left, max-le, min-le_right, le-mul_of_pos_right}
 use Rattle.exact.specs.Fractions.{Fraction, whole, frac, ◌⊕◌, ◌⊖◌, ◌÷◌, ◌≼◌, ◌≺◌}
 use Rattle.response.specs.declared.variable.Variable.{Variable}
 use Rattle.response.specs.Limits.{IsReference, IsDeadBand}
@@ -34,11 +35,15 @@ pub record VariableWeight (rate reference dead : ℕ) (dip : ℤ) (offset : ℕ)
 abbrev pub ramp_thousandths : (rate reference offset : ℕ) → ℕ
 ramp_thousandths rate reference offset = min (150000 + offset * rate) (1000 * reference)
 
+-- three times a number is no less than the number
+pub at_most_thrice : (e : ℕ) → e ≤ 3 * e
+at_most_thrice e = subst (λ (k : ℕ). e ≤ k) (mul_comm e 3) (le-mul_of_pos_right e (lit< tt))
+
 -- n over d, raised to at least 1 and cut to at most 3, for d above 0
 abbrev pub bounded : ℕ → ℕ → Factor
 bounded n d =
     let e : ℕ = max 1 d in
-    record { n = max e (min n (3 * e)); d = e; above = omega arith; least = omega arith; most = omega arith }
+    record { n = max e (min n (3 * e)); d = e; above = le-max_left 1 d; least = le-max_left e (min n (3 * e)); most = max-le (at_most_thrice e) (min-le_right n (3 * e)) }
 
 -- the factor of the variable rule
 abbrev pub variable : (rate reference dead : ℕ) → ℤ → ℕ → Factor

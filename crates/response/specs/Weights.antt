@@ -1,6 +1,6 @@
 -- Weights: what a response is multiplied by, from 1 to 3.
 use Rattle.std.specs.Prelude.{◌≡◌, ℕ, ◌*◌, ◌≤◌, pos}
-use Rattle.std.proofs.Common.{arith}
+use Rattle.std.proofs.Common.{lit≤}
 use Rattle.exact.specs.Fractions.{Fraction, frac}
 use Rattle.response.specs.declared.weighing.Weight.{Weight}
 
@@ -14,7 +14,7 @@ pub record Factor : Type 0 where
 
 -- the factor 1
 abbrev pub one : Factor
-one = record { n = 1; d = 1; above = omega arith; least = omega arith; most = omega arith }
+one = record { n = 1; d = 1; above = lit≤ tt; least = lit≤ tt; most = lit≤ tt }
 
 -- a factor as a number
 abbrev pub value : Factor → Fraction

@@ -18,6 +18,7 @@ impl BaseWindow {
     pub fn new(begin: u32, end: u32) -> Result<BaseWindow, Refusal>
         ensures { Granted result (IsBase begin end) (λ w. (w.begin ≡ begin) × (w.end ≡ end)) }
     {
+        // Two comparisons and no range: the number after `end` need not fit its type.
         if end < begin && begin <= EARLIEST_BEGIN {
             Ok(BaseWindow { begin, end })
         } else {

@@ -26,7 +26,7 @@ pub enum Group {
     Delayed,
 }
 
-// A row for each group, in the order of the groups.
+// A row for each group, in the order of the groups: the list itself, which a `match` would only spread out.
 const ROWS: [Row; 3] = [
     Row {
         first: Window {

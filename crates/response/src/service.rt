@@ -27,7 +27,8 @@ pub enum Service {
 }
 
 impl Side {
-    // The direction of the disturbances that services of this side belong to.
+    // The direction of the disturbances that services of this side belong to. A question to a side, as `side`
+    // and `group` are to a service, and no conversion: a side is not written as its direction.
     pub fn direction(self) -> Direction
         ensures { result ≡ direction_of self }
     {
@@ -77,6 +78,7 @@ impl Service {
     pub fn code(self) -> &'static str
         ensures { result.now ≡ (listed self).code }
     {
+        // The list of the codes, which `from_str` reads the other way.
         match self {
             Service::R6 => "R6",
             Service::R60 => "R60",

@@ -4,8 +4,9 @@ ghost use Rattle.response.specs.Limits.{Within, IsRate, IsReference, IsDeadBand,
 
 use crate::limits::{
     GREATEST_DIP, GREATEST_RATE, LEAST_RATE, LEAST_REFERENCE, LEAST_SWITCH, WIDEST_DEAD_BAND,
+    within,
 };
-use recording::refusal::{Reason, Refusal};
+use recording::refusal::Refusal;
 
 // How fast the dip is taken to grow, in mHz/s.
 #[derive(Clone, Copy, Debug, PartialEq, Eq)]
@@ -37,11 +38,9 @@ impl Rate {
     pub fn new(mhz_per_s: u32) -> Result<Rate, Refusal>
         ensures { Granted result (IsRate mhz_per_s) (λ rate. rate.mhz_per_s ≡ mhz_per_s) }
     {
-        if (LEAST_RATE..=GREATEST_RATE).contains(&mhz_per_s) {
-            Ok(Rate { mhz_per_s })
-        } else {
-            Err(Reason::SettingOutside.into())
-        }
+        Ok(Rate {
+            mhz_per_s: within(LEAST_RATE, GREATEST_RATE, mhz_per_s)?,
+        })
     }
 }
 
@@ -50,11 +49,9 @@ impl Trigger {
     pub fn new(dip: u32) -> Result<Trigger, Refusal>
         ensures { Granted result (IsTrigger dip) (λ trigger. trigger.dip ≡ dip) }
     {
-        if (LEAST_SWITCH..=GREATEST_DIP).contains(&dip) {
-            Ok(Trigger { dip })
-        } else {
-            Err(Reason::SettingOutside.into())
-        }
+        Ok(Trigger {
+            dip: within(LEAST_SWITCH, GREATEST_DIP, dip)?,
+        })
     }
 }
 
@@ -68,15 +65,10 @@ impl Response {
     ) -> Result<Response, Refusal>
         ensures { Granted result (IsReference reference_dip × IsDeadBand dead_band) (λ r. (r.rate ≡ rate) × (r.reference_dip ≡ reference_dip) × (r.dead_band ≡ dead_band) × (r.switch_dip ≡ switch_dip)) }
     {
-        if !(LEAST_REFERENCE..=GREATEST_DIP).contains(&reference_dip)
-            || dead_band > WIDEST_DEAD_BAND
-        {
-            return Err(Reason::SettingOutside.into());
-        }
         Ok(Response {
             rate,
-            reference_dip,
-            dead_band,
+            reference_dip: within(LEAST_REFERENCE, GREATEST_DIP, reference_dip)?,
+            dead_band: within(0, WIDEST_DEAD_BAND, dead_band)?,
             switch_dip,
         })
     }

@@ -6,7 +6,8 @@ ghost use Rattle.response.specs.declared.settings.Settings.{Settings as Given};
 use crate::settings::Settings;
 use recording::refusal::Refusal;
 
-// A task means what it gives with each settings.
+// A task means what it gives with each settings. A trait and no closure: to call a closure that is
+// passed in, a function has to require that it may be called, and no public function requires anything.
 pub trait Task {
     type Answer: Drop;
 

@@ -8,6 +8,7 @@ use crate::base::BaseWindow;
 use crate::settings::Settings;
 use crate::task::Task;
 use recording::refusal::Refusal;
+use std::mem;
 
 // A trial of a base window. It holds the settings until it ends.
 pub struct Trial<'a> {
@@ -22,8 +23,7 @@ impl<'a> Trial<'a> {
         ensures former { result.former ≡ settings.old.base }
         ensures swapped { result.settings.now ≡ with_base settings.old window }
     {
-        let former = settings.base;
-        settings.base = window;
+        let former = mem::replace(&mut settings.base, window);
         Trial { settings, former }
     }
 
@@ -54,16 +54,15 @@ impl Drop for Trial<'_> {
     fn drop(self)
         ensures { self.exit.0.now ≡ with_base self.entry.settings.now self.entry.former }
     {
-        self.settings.base = self.former;
-        let Trial {
-            settings: _,
-            former: _,
-        } = self;
+        let Trial { settings, former } = self;
+        settings.base = former;
     }
 }
 
+// Each of these calls promises that the settings are as they were: what a call leaves of a value that it
+// borrows is no fact about the value alone, which its type could carry.
 impl Settings {
-    // What a task gives in a trial of the window. Afterwards the settings are as they were.
+    // What a task gives in a trial of the window.
     pub fn in_trial<T: Task>(&mut self, window: BaseWindow, task: &T) -> Result<T::Answer, Refusal>
         ensures same { self.new ≡ self.old }
         ensures answer { result ≡ T.Task.gives task.now (with_base self.old window) }
@@ -72,7 +71,8 @@ impl Settings {
         task.run(trial.settings())
     }
 
-    // The same for a window that is not yet held against its limits.
+    // The same for a window that is not yet held against its limits. Two numbers and no `BaseWindow`, which
+    // exists only within them.
     pub fn tried<T: Task>(&mut self, begin: u32, end: u32, task: &T) -> Result<T::Answer, Refusal>
         ensures same { self.new ≡ self.old }
         ensures answer { Tried (T.Task.gives task.now) self.old begin end result }
@@ -91,6 +91,8 @@ impl Settings {
         ensures same { self.new ≡ self.old }
         ensures answer { result ≡ result_or (T.Task.gives task.now (with_base self.old first)) (T.Task.gives task.now (with_base self.old second)) }
     {
+        // No `or_else`: its contract leaves open what a closure that is not called, and holds the settings,
+        // leaves of them.
         match self.in_trial(first, task) {
             Err(_) => self.in_trial(second, task),
             accepted => accepted,

@@ -1,74 +1,95 @@
 // Services by their codes.
 use disturbance::direction::Direction;
-use response::group::Group;
+use recording::refusal::{Reason, Refusal};
+use response::group::{Group, Row, Window};
 use response::service::{Service, Side};
+use std::process::Abort;
 
-// Whether the text is refused with number 18.
-fn unknown(text: &str) -> bool {
-    match Service::from_code(text) {
-        Ok(_) => false,
-        Err(refusal) => refusal.number() == 18 && refusal.place == 0 && refusal.position == 0,
-    }
-}
+// What is answered to a text that is no service's code.
+const UNKNOWN: Refusal = Refusal {
+    reason: Reason::UnknownCode,
+    place: 0,
+    position: 0,
+};
 
-// Whether the code stands for a service with that code, side and widest window end; raise is for low
-// disturbances, lower for high ones.
-fn known(text: &str, raise: bool, end: u32) -> bool {
-    let Ok(service) = Service::from_code(text) else {
-        return false;
-    };
-    let raises = match service.side() {
-        Side::Raise => true,
-        Side::Lower => false,
-    };
-    let for_low = match service.side().direction() {
-        Direction::Low => true,
-        Direction::High => false,
-    };
-    service.code() == text
-        && raises == raise
-        && for_low == raise
-        && service.group().row().second.end == end
+// The code stands for the service, which is shown as that code and has the side and the widest
+// window end.
+fn known(rt: &impl Abort, code: &str, service: Service, side: Side, end: u32) {
+    assert_eq!(rt; Service::from_code(code), Ok(service));
+    assert_eq!(rt; code.parse::<Service>(), Ok(service));
+    assert_eq!(rt; service.code(), code);
+    assert_eq!(rt; service.side(), side);
+    assert_eq!(rt; service.group().row().second.end, end);
 }
 
 #[test]
 fn every_code(rt: HostRuntime) {
-    assert!(rt; known("R6", true, 60_000));
-    assert!(rt; known("R60", true, 300_000));
-    assert!(rt; known("R5", true, 900_000));
-    assert!(rt; known("L6", false, 60_000));
-    assert!(rt; known("L60", false, 300_000));
-    assert!(rt; known("L5", false, 900_000));
+    known(&rt, "R6", Service::R6, Side::Raise, 60_000);
+    known(&rt, "R60", Service::R60, Side::Raise, 300_000);
+    known(&rt, "R5", Service::R5, Side::Raise, 900_000);
+    known(&rt, "L6", Service::L6, Side::Lower, 60_000);
+    known(&rt, "L60", Service::L60, Side::Lower, 300_000);
+    known(&rt, "L5", Service::L5, Side::Lower, 900_000);
+}
+
+#[test]
+fn raise_is_for_low_disturbances_and_lower_for_high_ones(rt: HostRuntime) {
+    assert_eq!(rt; Side::Raise.direction(), Direction::Low);
+    assert_eq!(rt; Side::Lower.direction(), Direction::High);
 }
 
 #[test]
 fn other_texts(rt: HostRuntime) {
-    assert!(rt; unknown("r6") && unknown("l60") && unknown(" R6") && unknown("R6 "));
-    assert!(rt; unknown("") && unknown("R") && unknown("6") && unknown("R600"));
-    assert!(rt; unknown("R1") && unknown("L61") && unknown("R6\n") && unknown("R 6"));
+    assert_eq!(rt; UNKNOWN.number(), 18);
+    for text in [
+        "r6", "l60", " R6", "R6 ", "", "R", "6", "R600", "R1", "L61", "R6\n", "R 6",
+    ] {
+        assert_eq!(rt; Service::from_code(text), Err(UNKNOWN));
+    }
 }
 
 #[test]
 fn rows(rt: HostRuntime) {
-    let fast = Group::Fast.row();
-    assert!(rt; fast.first.start == 0 && fast.first.end == 6_000 && fast.first.multiplier == 2);
-    assert!(rt; fast.second.start == 6_000 && fast.second.multiplier == 2 && fast.widest_gap == 50);
-    let slow = Group::Slow.row();
-    assert!(rt;
-        slow.first.start == 6_000 && slow.first.end == 60_000 && slow.first.multiplier == 2
+    let to_first_minute = Window {
+        start: 6_000,
+        end: 60_000,
+        multiplier: 2,
+    };
+    let to_fifth_minute = Window {
+        start: 60_000,
+        end: 300_000,
+        multiplier: 2,
+    };
+    assert_eq!(rt;
+        Group::Fast.row(),
+        Row {
+            first: Window {
+                start: 0,
+                end: 6_000,
+                multiplier: 2,
+            },
+            second: to_first_minute,
+            widest_gap: 50,
+        }
     );
-    assert!(rt;
-        slow.second.start == 60_000 && slow.second.multiplier == 2 && slow.widest_gap == 4_000
+    assert_eq!(rt;
+        Group::Slow.row(),
+        Row {
+            first: to_first_minute,
+            second: to_fifth_minute,
+            widest_gap: 4_000,
+        }
     );
-    let delayed = Group::Delayed.row();
-    assert!(rt;
-        delayed.first.start == 60_000
-            && delayed.first.end == 300_000
-            && delayed.first.multiplier == 2
-    );
-    assert!(rt;
-        delayed.second.start == 300_000
-            && delayed.second.multiplier == 1
-            && delayed.widest_gap == 4_000
+    assert_eq!(rt;
+        Group::Delayed.row(),
+        Row {
+            first: to_fifth_minute,
+            second: Window {
+                start: 300_000,
+                end: 900_000,
+                multiplier: 1,
+            },
+            widest_gap: 4_000,
+        }
     );
 }

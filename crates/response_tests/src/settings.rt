@@ -1,7 +1,10 @@
 // Settings at both sides of each limit.
-use recording::refusal::Layer;
+use recording::refusal::{Layer, Reason, Refusal};
+use response::base::BaseWindow;
 use response::settings::{Proposal, Settings};
-use response::setup::Rate;
+use response::setup::{Rate, Response, Trigger};
+use std::process::Abort;
+use std::test::Fail;
 
 const PLAIN: Proposal = Proposal {
     rate: 125,
@@ -12,176 +15,129 @@ const PLAIN: Proposal = Proposal {
     base_end: 8_000,
 };
 
-// Whether settings are refused as they have to be: number 17 of layer setup, place 0, position 0, no field.
-fn refused(proposal: Proposal) -> bool {
-    let Err(refusal) = Settings::new(proposal) else {
-        return false;
-    };
-    let Layer::Setup = refusal.layer() else {
-        return false;
-    };
-    refusal.number() == 17 && refusal.field() == 0 && refusal.place == 0 && refusal.position == 0
+// What is answered to a setting outside its limits.
+const OUTSIDE: Refusal = Refusal {
+    reason: Reason::SettingOutside,
+    place: 0,
+    position: 0,
+};
+
+// Settings that are asked for are refused.
+fn refused(rt: &impl Abort, proposal: Proposal) {
+    assert_eq!(rt; Settings::new(proposal), Err(OUTSIDE));
+}
+
+// Settings that are asked for are granted.
+fn granted(rt: &impl Abort, proposal: Proposal) {
+    assert!(rt; Settings::new(proposal).is_ok());
+}
+
+#[test]
+fn the_refusal_is_number_17_of_layer_setup(rt: HostRuntime) {
+    assert_eq!(rt; OUTSIDE.number(), 17);
+    assert_eq!(rt; OUTSIDE.layer(), Layer::Setup);
+    assert_eq!(rt; OUTSIDE.field(), 0);
 }
 
 #[test]
 fn rate_limits(rt: HostRuntime) {
-    assert!(rt; refused(Proposal { rate: 0, ..PLAIN }));
-    assert!(rt; !refused(Proposal { rate: 1, ..PLAIN }));
-    assert!(rt;
-        !refused(Proposal {
-            rate: 10_000,
-            ..PLAIN
-        })
-    );
-    assert!(rt;
-        refused(Proposal {
-            rate: 10_001,
-            ..PLAIN
-        })
-    );
-    assert!(rt; Rate::new(0).is_err() && Rate::new(1).is_ok());
-    assert!(rt; Rate::new(10_000).is_ok() && Rate::new(10_001).is_err());
+    let asked = |rate| Proposal { rate, ..PLAIN };
+    refused(&rt, asked(0));
+    granted(&rt, asked(1));
+    granted(&rt, asked(10_000));
+    refused(&rt, asked(10_001));
+    assert_eq!(rt; Rate::new(0), Err(OUTSIDE));
+    assert_eq!(rt; Rate::new(1), Ok(Rate { mhz_per_s: 1 }));
+    assert_eq!(rt; Rate::new(10_000), Ok(Rate { mhz_per_s: 10_000 }));
+    assert_eq!(rt; Rate::new(10_001), Err(OUTSIDE));
 }
 
 #[test]
-fn dip_limits(rt: HostRuntime) {
-    assert!(rt;
-        refused(Proposal {
-            reference_dip: 159,
-            ..PLAIN
-        })
-    );
-    assert!(rt;
-        !refused(Proposal {
-            reference_dip: 160,
-            ..PLAIN
-        })
-    );
-    assert!(rt;
-        !refused(Proposal {
-            reference_dip: 2_000,
-            ..PLAIN
-        })
-    );
-    assert!(rt;
-        refused(Proposal {
-            reference_dip: 2_001,
-            ..PLAIN
-        })
-    );
-    assert!(rt;
-        !refused(Proposal {
-            dead_band: 0,
-            ..PLAIN
-        })
-    );
-    assert!(rt;
-        !refused(Proposal {
-            dead_band: 150,
-            ..PLAIN
-        })
-    );
-    assert!(rt;
-        refused(Proposal {
-            dead_band: 151,
-            ..PLAIN
-        })
-    );
-    assert!(rt;
-        refused(Proposal {
-            switch_dip: 150,
-            ..PLAIN
-        })
-    );
-    assert!(rt;
-        !refused(Proposal {
-            switch_dip: 151,
-            ..PLAIN
-        })
-    );
-    assert!(rt;
-        !refused(Proposal {
-            switch_dip: 2_000,
-            ..PLAIN
-        })
-    );
-    assert!(rt;
-        refused(Proposal {
-            switch_dip: 2_001,
-            ..PLAIN
-        })
-    );
+fn reference_limits(rt: HostRuntime) {
+    let asked = |reference_dip| Proposal {
+        reference_dip,
+        ..PLAIN
+    };
+    refused(&rt, asked(159));
+    granted(&rt, asked(160));
+    granted(&rt, asked(2_000));
+    refused(&rt, asked(2_001));
+}
+
+#[test]
+fn dead_band_limits(rt: HostRuntime) {
+    let asked = |dead_band| Proposal { dead_band, ..PLAIN };
+    granted(&rt, asked(0));
+    granted(&rt, asked(150));
+    refused(&rt, asked(151));
+}
+
+#[test]
+fn switch_limits(rt: HostRuntime) {
+    let asked = |switch_dip| Proposal {
+        switch_dip,
+        ..PLAIN
+    };
+    refused(&rt, asked(150));
+    granted(&rt, asked(151));
+    granted(&rt, asked(2_000));
+    refused(&rt, asked(2_001));
+    assert_eq!(rt; Trigger::new(150), Err(OUTSIDE));
+    assert_eq!(rt; Trigger::new(151), Ok(Trigger { dip: 151 }));
 }
 
 #[test]
 fn base_limits(rt: HostRuntime) {
-    assert!(rt;
-        refused(Proposal {
-            base_begin: 0,
-            base_end: 0,
-            ..PLAIN
-        })
+    let asked = |base_begin, base_end| Proposal {
+        base_begin,
+        base_end,
+        ..PLAIN
+    };
+    refused(&rt, asked(0, 0));
+    granted(&rt, asked(1, 0));
+    refused(&rt, asked(1, 1));
+    granted(&rt, asked(60_000, 59_999));
+    refused(&rt, asked(60_000, 60_000));
+    refused(&rt, asked(60_001, 0));
+}
+
+#[test]
+fn what_the_rules_read(rt: HostRuntime) -> Result<(), Fail> {
+    let rate = Rate::new(125)?;
+    let switch_dip = Trigger::new(200)?;
+    assert_eq!(rt;
+        Response::new(rate, 500, 150, switch_dip),
+        Ok(Settings::plain().response)
     );
-    assert!(rt;
-        !refused(Proposal {
-            base_begin: 1,
-            base_end: 0,
-            ..PLAIN
-        })
-    );
-    assert!(rt;
-        refused(Proposal {
-            base_begin: 1,
-            base_end: 1,
-            ..PLAIN
-        })
-    );
-    assert!(rt;
-        !refused(Proposal {
-            base_begin: 60_000,
-            base_end: 59_999,
-            ..PLAIN
-        })
-    );
-    assert!(rt;
-        refused(Proposal {
-            base_begin: 60_000,
-            base_end: 60_000,
-            ..PLAIN
-        })
-    );
-    assert!(rt;
-        refused(Proposal {
-            base_begin: 60_001,
-            base_end: 0,
-            ..PLAIN
-        })
-    );
+    assert_eq!(rt; Response::new(rate, 500, 151, switch_dip), Err(OUTSIDE));
+    Ok(())
 }
 
 #[test]
 fn a_refused_change_changes_nothing(rt: HostRuntime) {
     let mut settings = Settings::plain();
-    assert!(rt;
-        settings
-            .change(Proposal {
-                rate: 250,
-                base_end: 20_000,
-                ..PLAIN
-            })
-            .is_err()
+    let asked = |base_end| Proposal {
+        rate: 250,
+        base_end,
+        ..PLAIN
+    };
+    assert_eq!(rt; settings.change(asked(20_000)), Err(OUTSIDE));
+    assert_eq!(rt; settings, Settings::plain());
+    assert_eq!(rt; settings.response.rate, Rate { mhz_per_s: 125 });
+    assert_eq!(rt;
+        settings.base(),
+        BaseWindow {
+            begin: 20_000,
+            end: 8_000
+        }
     );
-    assert!(rt; settings.response.rate.mhz_per_s == 125);
-    assert!(rt; settings.base().end == 8_000);
-    assert!(rt;
-        settings
-            .change(Proposal {
-                rate: 250,
-                base_end: 19_999,
-                ..PLAIN
-            })
-            .is_ok()
+    assert_eq!(rt; settings.change(asked(19_999)), Ok(()));
+    assert_eq!(rt; settings.response.rate, Rate { mhz_per_s: 250 });
+    assert_eq!(rt;
+        settings.base(),
+        BaseWindow {
+            begin: 20_000,
+            end: 19_999
+        }
     );
-    assert!(rt; settings.response.rate.mhz_per_s == 250);
-    assert!(rt; settings.base().end == 19_999);
 }

@@ -6,8 +6,7 @@ use recording::refusal::{Reason, Refusal};
 use response::base::BaseWindow;
 use response::settings::Settings;
 use response::task::Task;
-use response::trial::{Trial, both_nested, first_accepted, in_trial, tried};
-use std::test::Fail;
+use response::trial::Trial;
 
 // The length of the base window, which is refused from 10,000 on.
 #[derive(Clone, Copy)]
@@ -21,15 +20,24 @@ impl Task for Span {
     fn run(&self, settings: &Settings) -> Result<u32, Refusal> {
         let base = settings.base();
         if base.begin - base.end >= 10_000 {
-            return Err(Refusal {
-                reason: Reason::NoBaseSample,
-                place: 0,
-                position: 0,
-            });
+            return Err(Reason::NoBaseSample.into());
         }
         Ok(base.begin - base.end)
     }
 }
+
+// What the task answers to a window that is too long.
+const TOO_LONG: Refusal = Refusal {
+    reason: Reason::NoBaseSample,
+    place: 0,
+    position: 0,
+};
+
+// The window of plain settings, which stands again after each trial.
+const PLAIN: BaseWindow = BaseWindow {
+    begin: 20_000,
+    end: 8_000,
+};
 
 // The length of the window in a trial, which a refusal leaves by `?`.
 fn span_in_trial(settings: &mut Settings, window: BaseWindow) -> Result<u32, Refusal> {
@@ -38,51 +46,27 @@ fn span_in_trial(settings: &mut Settings, window: BaseWindow) -> Result<u32, Ref
     Ok(span)
 }
 
-fn stands(settings: &Settings, begin: u32, end: u32) -> bool {
-    settings.base().begin == begin && settings.base().end == end
-}
-
 #[test]
 fn left_by_the_end_and_by_a_refusal(rt: HostRuntime) {
     let mut settings = Settings::plain();
-    assert!(rt;
-        matches_ok(
-            span_in_trial(
-                &mut settings,
-                BaseWindow {
-                    begin: 5_000,
-                    end: 1_000,
-                },
-            ),
-            4_000,
-        )
-    );
-    assert!(rt; stands(&settings, 20_000, 8_000));
-    assert!(rt;
-        span_in_trial(
-            &mut settings,
-            BaseWindow {
-                begin: 50_000,
-                end: 1_000,
-            },
-        )
-        .is_err()
-    );
-    assert!(rt; stands(&settings, 20_000, 8_000));
-    assert!(rt;
-        matches_ok(
-            in_trial(
-                &mut settings,
-                BaseWindow {
-                    begin: 9_999,
-                    end: 0,
-                },
-                &Span,
-            ),
-            9_999,
-        )
-    );
-    assert!(rt; stands(&settings, 20_000, 8_000));
+    let short = BaseWindow {
+        begin: 5_000,
+        end: 1_000,
+    };
+    let long = BaseWindow {
+        begin: 50_000,
+        end: 1_000,
+    };
+    let longest_accepted = BaseWindow {
+        begin: 9_999,
+        end: 0,
+    };
+    assert_eq!(rt; span_in_trial(&mut settings, short), Ok(4_000));
+    assert_eq!(rt; settings.base(), PLAIN);
+    assert_eq!(rt; span_in_trial(&mut settings, long), Err(TOO_LONG));
+    assert_eq!(rt; settings.base(), PLAIN);
+    assert_eq!(rt; settings.in_trial(longest_accepted, &Span), Ok(9_999));
+    assert_eq!(rt; settings.base(), PLAIN);
 }
 
 #[test]
@@ -97,62 +81,48 @@ fn left_early(rt: HostRuntime) {
         end: 10_001,
     };
     let least = BaseWindow { begin: 1, end: 0 };
-    assert!(rt; matches_ok(first_accepted(&mut settings, short, least, &Span), 9_999));
-    assert!(rt; stands(&settings, 20_000, 8_000));
-    assert!(rt; matches_ok(first_accepted(&mut settings, wide, least, &Span), 1));
-    assert!(rt; stands(&settings, 20_000, 8_000));
-    assert!(rt; first_accepted(&mut settings, wide, wide, &Span).is_err());
-    assert!(rt; stands(&settings, 20_000, 8_000));
+    assert_eq!(rt; settings.first_accepted(short, least, &Span), Ok(9_999));
+    assert_eq!(rt; settings.base(), PLAIN);
+    assert_eq!(rt; settings.first_accepted(wide, least, &Span), Ok(1));
+    assert_eq!(rt; settings.base(), PLAIN);
+    assert_eq!(rt; settings.first_accepted(wide, wide, &Span), Err(TOO_LONG));
+    assert_eq!(rt; settings.base(), PLAIN);
 }
 
 #[test]
-fn inside_a_trial(rt: HostRuntime) -> Result<(), Fail> {
+fn inside_a_trial(rt: HostRuntime) {
     let mut settings = Settings::plain();
     {
-        let mut trial = Trial::begin(
-            &mut settings,
-            BaseWindow {
-                begin: 7_000,
-                end: 0,
-            },
+        let window = BaseWindow {
+            begin: 7_000,
+            end: 0,
+        };
+        let mut trial = Trial::begin(&mut settings, window);
+        assert_eq!(rt; trial.tried_inside(30, 10, &Span), Ok(20));
+        assert_eq!(rt; trial.settings().base(), window);
+        assert_eq!(rt;
+            trial.tried_inside(30, 30, &Span),
+            Err(Reason::SettingOutside.into())
         );
-        assert!(rt; matches_ok(trial.tried_inside(30, 10, &Span), 20));
-        assert!(rt; stands(trial.settings(), 7_000, 0));
-        assert!(rt; trial.tried_inside(30, 30, &Span).is_err());
-        assert!(rt; stands(trial.settings(), 7_000, 0));
+        assert_eq!(rt; trial.settings().base(), window);
     }
-    assert!(rt; stands(&settings, 20_000, 8_000));
+    assert_eq!(rt; settings.base(), PLAIN);
     let inner = BaseWindow { begin: 3, end: 1 };
     let outer = BaseWindow {
         begin: 300,
         end: 100,
     };
-    let Ok((within, after)) = both_nested(&mut settings, inner, outer, &Span) else {
-        assert!(rt; false);
-        return Ok(());
-    };
-    assert!(rt; within == 2 && after == 200);
-    assert!(rt; stands(&settings, 20_000, 8_000));
-    Ok(())
+    assert_eq!(rt; settings.both_nested(inner, outer, &Span), Ok((2, 200)));
+    assert_eq!(rt; settings.base(), PLAIN);
 }
 
 #[test]
-fn a_window_outside_the_limits(rt: HostRuntime) -> Result<(), Fail> {
+fn a_window_outside_the_limits(rt: HostRuntime) {
     let mut settings = Settings::plain();
-    let Err(refusal) = tried(&mut settings, 60_001, 60_000, &Span) else {
-        assert!(rt; false);
-        return Ok(());
-    };
-    assert!(rt; refusal.number() == 17);
-    assert!(rt; stands(&settings, 20_000, 8_000));
-    assert!(rt; matches_ok(tried(&mut settings, 60_000, 59_999, &Span), 1));
-    assert!(rt; stands(&settings, 20_000, 8_000));
-    Ok(())
-}
-
-fn matches_ok(answer: Result<u32, Refusal>, expected: u32) -> bool {
-    match answer {
-        Ok(span) => span == expected,
-        Err(_) => false,
-    }
+    let outside = Refusal::from(Reason::SettingOutside);
+    assert_eq!(rt; settings.tried(60_001, 60_000, &Span), Err(outside));
+    assert_eq!(rt; outside.number(), 17);
+    assert_eq!(rt; settings.base(), PLAIN);
+    assert_eq!(rt; settings.tried(60_000, 59_999, &Span), Ok(1));
+    assert_eq!(rt; settings.base(), PLAIN);
 }

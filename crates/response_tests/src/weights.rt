@@ -1,7 +1,7 @@
 // Weights of both response rules.
 use response::rule::ResponseRule;
 use response::settings::Settings;
-use response::setup::Rate;
+use response::setup::{Rate, Trigger};
 use response::switching::Switching;
 use response::variable::Variable;
 use response::weighing::{Dip, Offset};
@@ -15,79 +15,145 @@ fn plain() -> Variable {
     }
 }
 
-// Whether the rule weighs n over d at a dip and an offset.
-fn weighs<R: ResponseRule>(rule: &R, mhz: i32, ms: u32, n: u32, d: u32) -> bool {
-    if mhz < -3_000 || mhz > 3_000 || ms > 1_200_000 {
-        return false;
-    }
-    let weight = rule.weight(Dip { mhz }, Offset { ms });
-    weight.n == n && weight.d == d
+// What the rule weighs at a dip and an offset, as n and d: a `Weight` is made of no other numbers than
+// those within its limits, and so is compared by its numbers.
+fn weighed<R: ResponseRule>(rule: &R, dip: Dip, offset: Offset) -> (u32, u32) {
+    let weight = rule.weight(dip, offset);
+    (weight.n, weight.d)
 }
 
 #[test]
 fn around_the_dead_band(rt: HostRuntime) {
     let rule = plain();
-    assert!(rt; weighs(&rule, 150, 2_000, 1, 1));
-    assert!(rt; weighs(&rule, 151, 2_000, 3_000, 1_000));
-    assert!(rt; weighs(&rule, 0, 2_000, 1, 1));
-    assert!(rt; weighs(&rule, -1, 2_000, 1, 1));
-    assert!(rt; weighs(&rule, -3_000, 1_200_000, 1, 1));
+    assert_eq!(rt;
+        weighed(&rule, Dip { mhz: 150 }, Offset { ms: 2_000 }),
+        (1, 1)
+    );
+    assert_eq!(rt;
+        weighed(&rule, Dip { mhz: 151 }, Offset { ms: 2_000 }),
+        (3_000, 1_000)
+    );
+    assert_eq!(rt;
+        weighed(&rule, Dip { mhz: 0 }, Offset { ms: 2_000 }),
+        (1, 1)
+    );
+    assert_eq!(rt;
+        weighed(&rule, Dip { mhz: -1 }, Offset { ms: 2_000 }),
+        (1, 1)
+    );
+    assert_eq!(rt;
+        weighed(&rule, Dip { mhz: -3_000 }, Offset { ms: 1_200_000 }),
+        (1, 1)
+    );
 }
 
 #[test]
 fn between_one_and_three(rt: HostRuntime) {
     let rule = plain();
-    assert!(rt; weighs(&rule, 200, 2_000, 150_000, 50_000));
-    assert!(rt; weighs(&rule, 233, 2_000, 249_000, 83_000));
-    assert!(rt; weighs(&rule, 234, 2_000, 250_000, 84_000));
-    assert!(rt; weighs(&rule, 300, 2_000, 250_000, 150_000));
-    assert!(rt; weighs(&rule, 400, 2_000, 250_000, 250_000));
-    assert!(rt; weighs(&rule, 401, 2_000, 251_000, 251_000));
-    assert!(rt; weighs(&rule, 450, 2_000, 300_000, 300_000));
-    assert!(rt; weighs(&rule, 3_000, 2_000, 2_850_000, 2_850_000));
+    assert_eq!(rt;
+        weighed(&rule, Dip { mhz: 200 }, Offset { ms: 2_000 }),
+        (150_000, 50_000)
+    );
+    assert_eq!(rt;
+        weighed(&rule, Dip { mhz: 233 }, Offset { ms: 2_000 }),
+        (249_000, 83_000)
+    );
+    assert_eq!(rt;
+        weighed(&rule, Dip { mhz: 234 }, Offset { ms: 2_000 }),
+        (250_000, 84_000)
+    );
+    assert_eq!(rt;
+        weighed(&rule, Dip { mhz: 300 }, Offset { ms: 2_000 }),
+        (250_000, 150_000)
+    );
+    assert_eq!(rt;
+        weighed(&rule, Dip { mhz: 400 }, Offset { ms: 2_000 }),
+        (250_000, 250_000)
+    );
+    assert_eq!(rt;
+        weighed(&rule, Dip { mhz: 401 }, Offset { ms: 2_000 }),
+        (251_000, 251_000)
+    );
+    assert_eq!(rt;
+        weighed(&rule, Dip { mhz: 450 }, Offset { ms: 2_000 }),
+        (300_000, 300_000)
+    );
+    assert_eq!(rt;
+        weighed(&rule, Dip { mhz: 3_000 }, Offset { ms: 2_000 }),
+        (2_850_000, 2_850_000)
+    );
 }
 
 #[test]
 fn where_the_ramp_meets_the_reference(rt: HostRuntime) {
     let rule = plain();
-    assert!(rt; weighs(&rule, 300, 0, 150_000, 150_000));
-    assert!(rt; weighs(&rule, 300, 2_799, 349_875, 150_000));
-    assert!(rt; weighs(&rule, 300, 2_800, 350_000, 150_000));
-    assert!(rt; weighs(&rule, 300, 2_801, 350_000, 150_000));
-    assert!(rt; weighs(&rule, 500, 2_800, 350_000, 350_000));
-    assert!(rt; weighs(&rule, 499, 2_800, 350_000, 349_000));
-    assert!(rt; weighs(&rule, 300, 1_200_000, 350_000, 150_000));
+    assert_eq!(rt;
+        weighed(&rule, Dip { mhz: 300 }, Offset { ms: 0 }),
+        (150_000, 150_000)
+    );
+    assert_eq!(rt;
+        weighed(&rule, Dip { mhz: 300 }, Offset { ms: 2_799 }),
+        (349_875, 150_000)
+    );
+    assert_eq!(rt;
+        weighed(&rule, Dip { mhz: 300 }, Offset { ms: 2_800 }),
+        (350_000, 150_000)
+    );
+    assert_eq!(rt;
+        weighed(&rule, Dip { mhz: 300 }, Offset { ms: 2_801 }),
+        (350_000, 150_000)
+    );
+    assert_eq!(rt;
+        weighed(&rule, Dip { mhz: 500 }, Offset { ms: 2_800 }),
+        (350_000, 350_000)
+    );
+    assert_eq!(rt;
+        weighed(&rule, Dip { mhz: 499 }, Offset { ms: 2_800 }),
+        (350_000, 349_000)
+    );
+    assert_eq!(rt;
+        weighed(&rule, Dip { mhz: 300 }, Offset { ms: 1_200_000 }),
+        (350_000, 150_000)
+    );
 }
 
 #[test]
 fn another_rate(rt: HostRuntime) -> Result<(), Fail> {
-    let Ok(rate) = Rate::new(10_000) else {
-        assert!(rt; false);
-        return Ok(());
-    };
+    let rate = Rate::new(10_000)?;
     let rule = Variable { rate, ..plain() };
-    assert!(rt; weighs(&rule, 300, 10, 150_000, 150_000));
-    assert!(rt; weighs(&rule, 300, 20, 200_000, 150_000));
-    assert!(rt; weighs(&rule, 300, 35, 350_000, 150_000));
-    assert!(rt; weighs(&rule, 300, 1_200_000, 350_000, 150_000));
-    assert!(rt; rule.trigger().is_none());
+    assert_eq!(rt;
+        weighed(&rule, Dip { mhz: 300 }, Offset { ms: 10 }),
+        (150_000, 150_000)
+    );
+    assert_eq!(rt;
+        weighed(&rule, Dip { mhz: 300 }, Offset { ms: 20 }),
+        (200_000, 150_000)
+    );
+    assert_eq!(rt;
+        weighed(&rule, Dip { mhz: 300 }, Offset { ms: 35 }),
+        (350_000, 150_000)
+    );
+    assert_eq!(rt;
+        weighed(&rule, Dip { mhz: 300 }, Offset { ms: 1_200_000 }),
+        (350_000, 150_000)
+    );
+    assert_eq!(rt; rule.trigger(), None);
     Ok(())
 }
 
 #[test]
-fn switching(rt: HostRuntime) -> Result<(), Fail> {
+fn switching(rt: HostRuntime) {
     let rule = Switching {
         response: Settings::plain().response,
     };
-    let Some(trigger) = rule.trigger() else {
-        assert!(rt; false);
-        return Ok(());
-    };
-    assert!(rt; trigger.dip == 200);
-    assert!(rt;
-        weighs(&rule, 200, 2_000, 1, 1)
-            && weighs(&rule, 3_000, 0, 1, 1)
-            && weighs(&rule, -1, 5, 1, 1)
+    assert_eq!(rt; rule.trigger(), Some(Trigger { dip: 200 }));
+    assert_eq!(rt;
+        weighed(&rule, Dip { mhz: 200 }, Offset { ms: 2_000 }),
+        (1, 1)
     );
-    Ok(())
+    assert_eq!(rt;
+        weighed(&rule, Dip { mhz: 3_000 }, Offset { ms: 0 }),
+        (1, 1)
+    );
+    assert_eq!(rt; weighed(&rule, Dip { mhz: -1 }, Offset { ms: 5 }), (1, 1));
 }

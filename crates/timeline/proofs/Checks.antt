@@ -1,7 +1,7 @@
 -- The first fault of a checking order, by tests that tell.
-use Rattle.std.proofs.Common.{◌≡◌, ℕ, Bool, true, false, cond, ◌⊎◌, List, [], ◌∷◌, ◌++◌, Some, None, Decides, Option, sym, refl, ◌∙◌, inl, inr, arith}
+use Rattle.std.proofs.Common.{◌≡◌, ℕ, Bool, true, false, cond, ◌⊎◌, List, [], ◌∷◌, ◌++◌, Some, None, Ok, Err, is_ok, Decides, Option, Result, MatchResult, sym, refl, ap, ◌∙◌, inl, inr, arith}
 use Rattle.std.proofs.lemmas.Bool.Decides.{not_from_Decides}
-use Rattle.timeline.specs.Checks.{Fault, FirstFault, Check, IsFirst, TheFirst, first_of}
+use Rattle.timeline.specs.Checks.{Fault, FirstFault, Check, IsFirst, TheFirst, first_of, unless, Allows}
 
 -- each test tells whether its fault applies
 abbrev pub Told : {A : Type 0} → List (Check A) → Type 0
@@ -26,9 +26,6 @@ first_once (c ∷ cs) r s (inr p) (inr q) = first_once cs r s p.1 q.1
 pub the_first : {A : Type 0} (cs : List (Check A)) → Told cs → TheFirst cs (first_of cs)
 the_first cs t = record { is = first_is cs t; only = λ s p. first_once cs (first_of cs) s (first_is cs t) p }
 
-pub the_first_at : {A : Type 0} (cs : List (Check A)) (r : Option A) → Told cs → r ≡ first_of cs → TheFirst cs r
-the_first_at cs r t e = rw e (the_first cs t)
-
 -- no test found its fault
 abbrev pub NoneFound : {A : Type 0} → List (Check A) → Type 0
 NoneFound [] = Unit {0}
@@ -41,6 +38,34 @@ none_found_by c cs false e = (refl, e)
 pub none_found : {A : Type 0} (cs : List (Check A)) → first_of cs ≡ None → NoneFound cs
 none_found [] e = tt
 none_found (c ∷ cs) e = let p = none_found_by c cs c.test e in (p.0, none_found cs p.1)
+
+-- ---- a call that is allowed, and one that is refused
+-- a call that gives a value met no fault, whatever its fault is told as
+pub no_fault : {A F G : Type 0} (fault : Option F) (value given : A) (r : Result A F) (told : Result A G) → r ≡ unless fault value → is_ok told ≡ is_ok r → told ≡ Ok given → fault ≡ None
+no_fault None value given r told e v h = refl
+no_fault (Some why) value given r told e v h = let no : is_ok told ≡ false = v ∙ ap is_ok e in let yes : is_ok told ≡ true = ap is_ok h in grind arith
+
+pub ok_none : {A F : Type 0} (fault : Option F) (value given : A) → Ok given ≡ unless fault value → fault ≡ None
+ok_none None value given e = refl
+ok_none (Some why) value given e = let z : ◌≡◌ {A = ℕ} 0 1 = cc in absurd (omega arith)
+
+pub ok_same : {A F : Type 0} (fault : Option F) (value given : A) → Ok given ≡ unless fault value → given ≡ value
+ok_same None value given e = cc
+ok_same (Some why) value given e = let z : ◌≡◌ {A = ℕ} 0 1 = cc in absurd (omega arith)
+
+pub err_some : {A F : Type 0} (fault : Option F) (value : A) (why : F) → Err why ≡ unless fault value → fault ≡ Some why
+err_some None value why e = let z : ◌≡◌ {A = ℕ} 0 1 = cc in absurd (omega arith)
+err_some (Some other) value why e = cc
+
+-- the same is allowed by other checks that come to the same; its value is let go
+pub done_as : {A F : Type 0} (P : A → Type 0) (cs ds : List (Check F)) (value : A) (r : Result A F) (s : Result (Unit {0}) F) → first_of cs ≡ first_of ds → Told ds → Allows cs value r → is_ok s ≡ is_ok r → MatchResult r P (λ why. s ≡ Err why) → Allows ds (tt {0}) s
+done_as P cs ds value (Ok given) (Ok done) e t a v m =
+    let none : first_of ds ≡ None = sym e ∙ ok_none (first_of cs) value given a.answer in
+    record { first = the_first ds t; answer = ap (λ o. unless o (tt {0})) (sym none) }
+done_as P cs ds value (Ok given) (Err why) e t a v m = grind arith
+done_as P cs ds value (Err why) s e t a v m =
+    let some : first_of ds ≡ Some why = sym e ∙ err_some (first_of cs) value why a.answer in
+    record { first = the_first ds t; answer = m ∙ ap (λ o. unless o (tt {0})) (sym some) }
 
 -- ---- faults with no test beside them
 -- there is one first fault

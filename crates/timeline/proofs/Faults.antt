@@ -1,16 +1,17 @@
 -- The faults of each call: their tests tell, and what is known where none applies.
-use Rattle.std.proofs.Common.{◌≡◌, ℕ, ◌<◌, ◌≤◌, true, false, List, [], ◌∷◌, length, take, Some, None, Decides, Option, sym, refl, ap, arith}
+use Rattle.std.proofs.Common.{◌≡◌, ℕ, ◌<◌, ◌≤◌, true, false, List, [], ◌∷◌, length, take, Some, None, Err, is_ok, Decides, Option, Result, MatchResult, sym, refl, ap, ◌∙◌, arith}
 use Rattle.std.proofs.lemmas.List.{length-take-le}
 use Rattle.std.proofs.lemmas.Bool.{leb-false, or_parts}
 use Rattle.std.proofs.lemmas.Bool.Decides.{Decides-or, Decides-not}
 use Rattle.recording.specs.declared.refusal.Field.{Field}
 use Rattle.recording.specs.declared.refusal.Field.TheVariants.{Time, Frequency, Power}
 use Rattle.recording.specs.declared.refusal.Reason.{Reason}
-use Rattle.timeline.specs.Checks.{Check, first_of}
+use Rattle.timeline.specs.Checks.{Check, first_of, Allows}
+use Rattle.timeline.specs.declared.end.End.{End}
 use Rattle.timeline.specs.Entries.{Kind}
 use Rattle.timeline.specs.Orders.{time_before, is_sound}
-use Rattle.timeline.specs.Faults.{other_table, is_field, full, out_of_order, outside_limits, append_faults, put_faults}
-use Rattle.timeline.proofs.Checks.{Told, none_found}
+use Rattle.timeline.specs.Faults.{other_table, is_field, full, out_of_order, outside_limits, append_faults, put_faults, put_checks}
+use Rattle.timeline.proofs.Checks.{Told, none_found, done_as}
 use Rattle.timeline.proofs.Orders.{decides_leb, decides_misplaced, decides_sound, before_take}
 
 decides_field : (f : Field) (o : Option Field) → Decides (is_field f o) (o ≡ Some f)
@@ -41,21 +42,28 @@ module _ {E : Type 0} (kind : Kind E) where
   pub told_append : (places count : ℕ) (before : Option ℕ) (e : E) → Told (append_faults kind places count before e)
   told_append places count before e = told_limits e (full kind places count ∷ out_of_order before None (kind.time e) ∷ []) (Decides-or _ _ (decides_leb places count) (decides_leb kind.most count), (decides_misplaced before None (kind.time e), tt))
 
-  pub told_put : (places : ℕ) (xs : List E) (e : E) → Told (put_faults kind places xs e)
-  told_put places xs e = told_append places (length xs) (time_before kind xs (length xs)) e
+  told_put : (count : ℕ) (table : List E) (e : E) → Told (put_checks kind count table e)
+  told_put count table e = told_table count table (put_faults kind (length table) (take count table) e) (told_append (length table) (length (take count table)) (time_before kind (take count table) (length (take count table))) e)
 
   -- ---- in a table that is sound
   pub past_table : (count : ℕ) (table : List E) (next : List (Check Reason)) → true ≡ is_sound kind count table → first_of next ≡ first_of (other_table kind count table ∷ next)
   past_table count table next h = let e : is_sound kind count table ≡ true = sym h in rw e refl
 
   -- what is put at the end is added after the counted entries
-  pub put_appends : (places count : ℕ) (table : List E) (e : E) → count ≤ length table → append_faults kind places count (time_before kind table count) e ≡ put_faults kind places (take count table) e
-  put_appends places count table e le =
-      let n : length (take count table) ≡ count = length-take-le count table le in
-      rw n (ap (λ before. append_faults kind places count before e) (sym (before_take kind count table)))
+  module _ (count : ℕ) (table : List E) (e : E) (h : true ≡ is_sound kind count table) where
+    put_as_append : first_of (append_faults kind (length table) count (time_before kind table count) e) ≡ first_of (put_checks kind count table e)
+    put_as_append =
+        let room : count ≤ length table = ((decides_sound kind count table).0 (sym h)).room in
+        let n : length (take count table) ≡ count = length-take-le count table room in
+        let same : append_faults kind (length table) count (time_before kind table count) e ≡ put_faults kind (length table) (take count table) e =
+        rw n (ap (λ before. append_faults kind (length table) count before e) (sym (before_take kind count table))) in
+        ap first_of same ∙ past_table count table (put_faults kind (length table) (take count table) e) h
+
+    pub put_allows : (P : End → Type 0) (value : End) (r : Result End Reason) (s : Result (Unit {0}) Reason) → Allows (append_faults kind (length table) count (time_before kind table count) e) value r → is_ok s ≡ is_ok r → MatchResult r P (λ why. s ≡ Err why) → Allows (put_checks kind count table e) (tt {0}) s
+    put_allows P value r s a v m = done_as P _ _ value r s put_as_append (told_put count table e) a v m
 
   -- an entry that may be added has a place
-  pub append_room : (places count : ℕ) (before : Option ℕ) (e : E) → None ≡ first_of (append_faults kind places count before e) → count < places
+  pub append_room : (places count : ℕ) (before : Option ℕ) (e : E) → first_of (append_faults kind places count before e) ≡ None → count < places
   append_room places count before e h =
-      let (_, (_, (_, (room, _)))) = none_found (append_faults kind places count before e) (sym h) in
+      let (_, (_, (_, (room, _)))) = none_found (append_faults kind places count before e) h in
       leb-false places count (or_parts _ _ room).0

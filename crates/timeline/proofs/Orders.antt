@@ -1,11 +1,11 @@
 -- Entries in order: what the tests tell.
-use Rattle.std.proofs.Common.{◌≡◌, ℕ, zero, suc, ◌+◌, ◌-◌, ◌<◌, ◌≤◌, Bool, true, false, not, ◌&&◌, leb, ◌⊎◌, List, [], ◌∷◌, ◌++◌, map, length, get_or, take, drop, set, is_some, Some, None, Decides, Option, sym, refl, ap, ◌∙◌, inl, inr, ⊎_elim, add-one, arith}
+use Rattle.std.proofs.Common.{◌≡◌, ℕ, zero, suc, ◌+◌, ◌-◌, ◌<◌, ◌≤◌, Bool, true, false, not, leb, ◌⊎◌, List, [], ◌∷◌, ◌++◌, map, length, get_or, take, set, is_some, Some, None, Decides, Option, sym, refl, ap, ◌∙◌, inl, inr, ⊎_elim, add-one, arith}
 use Rattle.std.specs.List.{slice_get, remove}
-use Rattle.std.proofs.lemmas.List.{at_drop_more, get_or-map, length-map, take-map, length_push, get_or_push, get_or_append_left, get_or-set_same, get_or-set_other, length-set}
+use Rattle.std.proofs.lemmas.List.{get_or-map, length-map, take-map, length_push, get_or_push, get_or_append_left, get_or-set_same, get_or-set_other, length-set}
 use Rattle.std.proofs.lemmas.List.Edits.{length-remove, get_or-remove_below, get_or-remove_above}
 use Rattle.std.proofs.lemmas.Option.{slice_get-get_or, slice_get_past}
-use Rattle.std.proofs.lemmas.Bool.{le-leb, lt-leb, leb-true, and_parts, not-true, not_from_false, cases_lt, cases_eq}
-use Rattle.std.proofs.lemmas.Bool.Decides.{Decides-or, Decides-and, not_from_Decides}
+use Rattle.std.proofs.lemmas.Bool.{le-leb, leb-true, and_parts, not-true, not_from_false, cases_lt, cases_eq}
+use Rattle.std.proofs.lemmas.Bool.Decides.{Decides-or, Decides-and, not_from_Decides, same_from_decides}
 use Rattle.timeline.specs.Entries.{Kind}
 use Rattle.timeline.specs.Orders.{Ordered, Sound, NotLater, NotEarlier, Misplaced, not_later, not_earlier, misplaced, ordered_after, is_sound, time_before, time_after}
 
@@ -87,17 +87,9 @@ module _ {E : Type 0} (kind : Kind E) where
       let d = Decides-and (leb count (length table)) _ (decides_leb count (length table)) (decides_ordered (take count table)) in
       (λ e. record { room = (d.0 e).0; ordered = (d.0 e).1 }, λ s. d.1 (s.room, s.ordered))
 
-  -- ---- one entry more of the pass
-  pub ordered_next : (before : Option ℕ) (i : ℕ) (xs : List E) (x : E) → i < length xs → x ≡ get_or xs i x → ordered_after kind before (drop i xs) ≡ (not (is_some (kind.outside x)) && (not (misplaced before None (kind.time x)) && ordered_after kind (Some (kind.time x)) (drop (i + 1) xs)))
-  ordered_next before i xs x lt read = at_drop_more (ordered_after kind before) xs i x lt ∙ ap (λ y. ordered_after kind before (y ∷ drop (i + 1) xs)) (sym read)
-
-  pub sound_by : (count : ℕ) (table : List E) (b : Bool) → count ≤ length table → b ≡ ordered_after kind None (take count table) → b ≡ is_sound kind count table
-  unfolding is_sound
-  sound_by count table b le e = let t : leb count (length table) ≡ true = le-leb count (length table) le in rw t e
-
-  pub unsound_by : (count : ℕ) (table : List E) → length table < count → false ≡ is_sound kind count table
-  unfolding is_sound
-  unsound_by count table lt = let t : leb count (length table) ≡ false = lt-leb count (length table) lt in rw t refl
+  -- whatever tells whether a table is sound comes to the same as the test
+  pub sound_told : (count : ℕ) (table : List E) (b : Bool) → Decides b (Sound kind count table) → b ≡ is_sound kind count table
+  sound_told count table b d = same_from_decides b (is_sound kind count table) d (decides_sound count table)
 
   -- ---- neighbours
   nth_time : (xs : List E) (i : ℕ) (d : E) → i < length xs → slice_get (map kind.time xs) i ≡ Some (kind.time (get_or xs i d))
@@ -120,23 +112,6 @@ module _ {E : Type 0} (kind : Kind E) where
   pub before_take : (n : ℕ) (xs : List E) → time_before kind (take n xs) n ≡ time_before kind xs n
   before_take zero xs = refl
   before_take (suc n) xs = ap (λ ts. slice_get ts n) (sym (take-map kind.time (suc n) xs)) ∙ nth_take (suc n) n (map kind.time xs) (omega arith)
-
-  -- ---- a turn of the pass, at the entry x
-  module _ (before : Option ℕ) (i : ℕ) (xs : List E) (x : E) (lt : i < length xs) (read : x ≡ get_or xs i x) (inv : ordered_after kind before (drop i xs) ≡ ordered_after kind None xs) where
-    pub turn_outside : true ≡ is_some (kind.outside x) → false ≡ ordered_after kind None xs
-    turn_outside e = let f : is_some (kind.outside x) ≡ true = sym e in sym (sym inv ∙ ordered_next before i xs x lt read ∙ rw f refl)
-
-    pub turn_misplaced : false ≡ is_some (kind.outside x) → true ≡ misplaced before None (kind.time x) → false ≡ ordered_after kind None xs
-    turn_misplaced e h =
-        let f : is_some (kind.outside x) ≡ false = sym e in
-        let m : misplaced before None (kind.time x) ≡ true = sym h in
-        sym (sym inv ∙ ordered_next before i xs x lt read ∙ rw (f, m) refl)
-
-    pub turn_more : false ≡ is_some (kind.outside x) → false ≡ misplaced before None (kind.time x) → ordered_after kind (Some (kind.time x)) (drop (i + 1) xs) ≡ ordered_after kind None xs
-    turn_more e h =
-        let f : is_some (kind.outside x) ≡ false = sym e in
-        let m : misplaced before None (kind.time x) ≡ false = sym h in
-        sym (sym inv ∙ ordered_next before i xs x lt read ∙ rw (f, m) refl)
 
   -- ---- a time that is not misplaced lies between its neighbours
   pub later_from : (xs : List E) (i : ℕ) (after : Option ℕ) (t : ℕ) → misplaced (time_before kind xs i) after t ≡ false → 0 < i → i ≤ length xs → (d : E) → kind.time (get_or xs (i - 1) d) < t

@@ -1,5 +1,5 @@
 -- A checking order: faults in turn, of which the first that applies gives the answer.
-use Rattle.std.specs.Prelude.{◌≡◌, Bool, cond, ◌⊎◌, List, [], ◌∷◌, Some, None, Option}
+use Rattle.std.specs.Prelude.{◌≡◌, Bool, cond, ◌⊎◌, List, [], ◌∷◌, Some, None, Ok, Err, Option, Result}
 
 -- a fault: when it applies, the test that tells, and the answer that it gives
 pub record Check (A : Type 0) : Type 1 where
@@ -21,6 +21,16 @@ pub record TheFirst {A : Type 0} (cs : List (Check A)) (r : Option A) : Type 0 w
 abbrev pub first_of : {A : Type 0} → List (Check A) → Option A
 first_of [] = None
 first_of (c ∷ cs) = cond c.test (Some c.answer) (first_of cs)
+
+-- a value, unless there is a fault
+abbrev pub unless : {A F : Type 0} → Option F → A → Result A F
+unless None value = Ok value
+unless (Some why) value = Err why
+
+-- r is the value where no fault applies, and else the answer of the first that does; there is no other such answer
+pub record Allows {A F : Type 0} (cs : List (Check F)) (value : A) (r : Result A F) : Type 0 where
+  pub first : TheFirst cs (first_of cs)
+  pub answer : r ≡ unless (first_of cs) value
 
 -- a fault with no test beside it: when it applies, and the answer that it gives
 pub record Fault (A : Type 0) : Type 1 where

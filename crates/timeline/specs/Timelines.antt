@@ -10,7 +10,7 @@ use Rattle.timeline.specs.Orders.{Sound, time_before}
 use Rattle.timeline.specs.Faults.{append_faults, put_checks, amend_checks, strike_checks}
 
 -- a call's answer: a value, or the refusal that the fault makes
-abbrev pub answered : {A F : Type 0} → (Reason → F) → A → Option Reason → Result A F
+abbrev pub answered : {A W F : Type 0} → (W → F) → A → Option W → Result A F
 answered refused value None = Ok value
 answered refused value (Some why) = Err (refused why)
 
@@ -19,7 +19,7 @@ abbrev pub over : {E : Type 0} → List E → List E → List E
 over xs table = xs ++ drop (length xs) table
 
 -- the table after a call: xs laid over its front, or nothing written
-abbrev pub written : {E : Type 0} → Option Reason → List E → List E → List E
+abbrev pub written : {E W : Type 0} → Option W → List E → List E → List E
 written None xs table = over xs table
 written (Some why) xs table = table
 

@@ -1,12 +1,18 @@
 // The entries of a timeline: whatever carries a time.
-ghost use Rattle.std.specs.Prelude.{◌≡◌};
-ghost use Rattle.timeline.specs.Entries.{Kind, time_limits, power_limits};
+ghost use Rattle.std.specs.Prelude.{◌≡◌, ℕ};
+ghost use Rattle.timeline.specs.Entries.{Kind};
 
 use recording::refusal::Field;
-use recording::sample::{GREATEST_POWER, LATEST};
 
 pub trait Entry {
     ghost kind: { Kind Self };
+
+    ghost MOST: { ℕ };
+    // What each `impl` must prove.
+    ghost most_is: { MOST ≡ kind.most };
+
+    // The greatest count.
+    const MOST: usize;
 
     fn time(&self) -> u32
         ensures { result ≡ kind.time self.now };
@@ -14,20 +20,4 @@ pub trait Entry {
     // The first field that is outside its limits.
     fn outside(&self) -> Option<Field>
         ensures { result ≡ kind.outside self.now };
-
-    // The greatest count.
-    fn most() -> usize
-        ensures { result ≡ kind.most };
-}
-
-pub(crate) fn is_time_outside(time: u32) -> bool
-    ensures { result ≡ (time_limits time).test }
-{
-    time > LATEST
-}
-
-pub(crate) fn is_power_outside(power: i32) -> bool
-    ensures { result ≡ (power_limits power).test }
-{
-    power < -GREATEST_POWER || power > GREATEST_POWER
 }

@@ -1,5 +1,5 @@
 // Entries in order of their times: whether a table's entries are, and where a time may stand.
-ghost use Rattle.std.specs.Prelude.{◌≡◌, Decides};
+ghost use Rattle.std.specs.Prelude.{◌≡◌, ℕ, ◌+◌, ◌<◌, length, None, Decides, slice_index_or};
 ghost use Rattle.timeline.specs.Orders.{Sound, is_sound, misplaced, time_before, time_after};
 
 use crate::entry::Entry;
@@ -8,37 +8,37 @@ use crate::entry::Entry;
 pub(crate) fn is_misplaced(before: Option<u32>, after: Option<u32>, time: u32) -> bool
     ensures { result ≡ misplaced before after time }
 {
-    if let Some(earlier) = before {
-        if time <= earlier {
-            return true;
-        }
-    }
-    match after {
-        Some(later) => later <= time,
-        None => false,
-    }
+    before.is_some_and(|earlier| time <= earlier) || after.is_some_and(|later| later <= time)
 }
 
 // The time of the entry before a place.
 pub fn time_before<E: Entry>(entries: &[E], place: usize) -> Option<u32>
     ensures { result ≡ time_before E.kind entries.now place }
 {
-    if 0 < place && place <= entries.len() {
-        Some(entries[place - 1].time())
-    } else {
-        None
-    }
+    let entry = entries.get(place.checked_sub(1)?)?;
+    Some(entry.time())
 }
 
 // The time of the entry after a place.
 pub(crate) fn time_after<E: Entry>(entries: &[E], place: usize) -> Option<u32>
     ensures { result ≡ time_after E.kind entries.now place }
 {
-    if place < entries.len() && entries.len() - place > 1 {
-        Some(entries[place + 1].time())
-    } else {
-        None
-    }
+    let entry = entries.get(place.checked_add(1)?)?;
+    Some(entry.time())
+}
+
+// Whether every entry is within its limits.
+fn are_within<E: Entry>(entries: &[E]) -> bool
+    ensures { Decides result ((i : ℕ) (d : E) → i < length entries.now → E.kind.outside (slice_index_or entries.now i d) ≡ None) }
+{
+    entries.iter().all(|entry| entry.outside().is_none())
+}
+
+// Whether each entry is earlier than the next.
+fn are_rising<E: Entry>(entries: &[E]) -> bool
+    ensures { Decides result ((i : ℕ) (d : E) → i + 1 < length entries.now → E.kind.time (slice_index_or entries.now i d) < E.kind.time (slice_index_or entries.now (i + 1) d)) }
+{
+    entries.is_sorted_by(|before, after| before.time() < after.time())
 }
 
 // Whether a table holds as many entries as are counted, each within its limits and later than the
@@ -47,20 +47,8 @@ pub fn is_sound<E: Entry>(table: &[E], count: usize) -> bool
     ensures value { result ≡ is_sound E.kind count table.now }
     ensures sound { Decides result (Sound E.kind count table.now) }
 {
-    if count > table.len() {
-        return false;
+    match table.get(..count) {
+        Some(counted) => are_within(counted) && are_rising(counted),
+        None => false,
     }
-    let counted = &table[0..count];
-    let mut before: Option<u32> = None;
-    for x in counted {
-        if x.outside().is_some() {
-            return false;
-        }
-        let time = x.time();
-        if is_misplaced(before, None, time) {
-            return false;
-        }
-        before = Some(time);
-    }
-    true
 }

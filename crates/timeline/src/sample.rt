@@ -1,17 +1,23 @@
 // Samples as entries of a timeline.
-ghost use Rattle.std.specs.Prelude.{◌≡◌};
+ghost use Rattle.std.specs.Prelude.{◌≡◌, refl};
 ghost use Rattle.timeline.specs.Checks.{TheFirst};
 ghost use Rattle.timeline.specs.Samples.{samples, sample_fields};
 
-use crate::entry::{Entry, is_power_outside, is_time_outside};
+use crate::entry::Entry;
 use recording::refusal::Field;
-use recording::sample::{GREATEST_FREQUENCY, LEAST_FREQUENCY, Sample};
+use recording::sample::{Sample, is_frequency, is_power, is_time};
 
 // The greatest count of a timeline of samples.
 pub const MOST_SAMPLES: usize = 4096;
 
 impl Entry for Sample {
     ghost kind = { samples };
+
+    const MOST: usize = MOST_SAMPLES;
+
+    ghost MOST = { 4096 };
+
+    ghost most_is = { refl };
 
     fn time(&self) -> u32 {
         self.time
@@ -21,19 +27,15 @@ impl Entry for Sample {
         ensures value { result ≡ samples.outside self.now }
         ensures the_first { TheFirst (sample_fields self.now) result }
     {
-        if is_time_outside(self.time) {
+        if !is_time(self.time) {
             return Some(Field::Time);
         }
-        if self.frequency < LEAST_FREQUENCY || self.frequency > GREATEST_FREQUENCY {
+        if !is_frequency(self.frequency) {
             return Some(Field::Frequency);
         }
-        if is_power_outside(self.power) {
+        if !is_power(self.power) {
             return Some(Field::Power);
         }
         None
-    }
-
-    fn most() -> usize {
-        MOST_SAMPLES
     }
 }

@@ -1,17 +1,18 @@
 // Dispatch targets, and as entries of a timeline.
-ghost use Rattle.std.specs.Prelude.{◌≡◌};
+ghost use Rattle.std.specs.Prelude.{◌≡◌, refl};
 ghost use Rattle.timeline.specs.Checks.{TheFirst};
 ghost use Rattle.timeline.specs.Targets.{targets, target_fields};
 
-use crate::entry::{Entry, is_power_outside, is_time_outside};
+use crate::entry::Entry;
 use recording::refusal::Field;
+use recording::sample::{is_power, is_time};
 
 // The greatest count of a timeline of targets.
 pub const MOST_TARGETS: usize = 16;
 
 // The power that a plant is to reach at a time: time in ms, power in W with flow into the network
 // positive.
-#[derive(Clone, Copy)]
+#[derive(Clone, Copy, Debug, PartialEq, Eq)]
 pub struct Target {
     pub time: u32,
     pub power: i32,
@@ -19,6 +20,12 @@ pub struct Target {
 
 impl Entry for Target {
     ghost kind = { targets };
+
+    const MOST: usize = MOST_TARGETS;
+
+    ghost MOST = { 16 };
+
+    ghost most_is = { refl };
 
     fn time(&self) -> u32 {
         self.time
@@ -28,16 +35,12 @@ impl Entry for Target {
         ensures value { result ≡ targets.outside self.now }
         ensures the_first { TheFirst (target_fields self.now) result }
     {
-        if is_time_outside(self.time) {
+        if !is_time(self.time) {
             return Some(Field::Time);
         }
-        if is_power_outside(self.power) {
+        if !is_power(self.power) {
             return Some(Field::Power);
         }
         None
-    }
-
-    fn most() -> usize {
-        MOST_TARGETS
     }
 }

@@ -1,13 +1,11 @@
 // A timeline: a count and the caller's table. Its entries stand at the places below the count, in
 // order of their times; what stands from the count on is the caller's.
-ghost use Rattle.std.specs.Prelude.{◌≡◌, ◌+◌, ◌<◌, ◌≤◌, length, take, slice_set};
-ghost use Rattle.std.specs.List.{remove};
-ghost use Rattle.recording.specs.Refusals.{refusal};
-ghost use Rattle.timeline.specs.Timelines.{answered, over, Appends, Puts, Amends, Strikes};
+ghost use Rattle.std.specs.Prelude.{◌≡◌, ◌+◌, ◌<◌, length, slice_set};
+ghost use Rattle.timeline.specs.Timelines.{Appends, Puts, Amends, Strikes};
 
+use crate::end::End;
 use crate::entry::Entry;
-use crate::fault::{amend_fault, append_fault, put_fault, strike_fault};
-use crate::order::time_before;
+use crate::fault::{check_amend, check_put, check_strike};
 use recording::refusal::{Reason, Refusal};
 
 #[derive(Drop)]
@@ -22,7 +20,7 @@ impl<'a, E: Entry + Copy> Timeline<'a, E> {
         ensures { Puts E.kind self.entry.count self.entry.table.now e result self.exit.0.now }
     {
         let Timeline { table, count } = self;
-        allow(put_fault(table, count, &e), count)?;
+        check_put(table, count, &e).map_err(|reason| reason.at(count))?;
         Ok(add_last(table, count, e))
     }
 
@@ -31,7 +29,7 @@ impl<'a, E: Entry + Copy> Timeline<'a, E> {
         ensures { Amends E.kind self.entry.count self.entry.table.now place e result self.exit.0.now }
     {
         let Timeline { table, count } = self;
-        allow(amend_fault(table, count, place, &e), place)?;
+        check_amend(table, count, place, &e).map_err(|reason| reason.at(place))?;
         table[place] = e;
         Ok(count)
     }
@@ -41,23 +39,9 @@ impl<'a, E: Entry + Copy> Timeline<'a, E> {
         ensures { Strikes E.kind self.entry.count self.entry.table.now place result self.exit.0.now }
     {
         let Timeline { table, count } = self;
-        allow(strike_fault(table, count, place), place)?;
-        move_down(table, place, count);
+        check_strike(table, count, place).map_err(|reason| reason.at(place))?;
+        table.copy_within(place + 1..count, place);
         Ok(count - 1)
-    }
-}
-
-// Refuses a call at a place, where it has a fault.
-fn allow(fault: Option<Reason>, place: usize) -> Result<(), Refusal>
-    ensures { result ≡ answered (λ why. refusal why place 0) tt fault }
-{
-    match fault {
-        Some(reason) => Err(Refusal {
-            reason,
-            place,
-            position: 0,
-        }),
-        None => Ok(()),
     }
 }
 
@@ -66,9 +50,7 @@ fn allow(fault: Option<Reason>, place: usize) -> Result<(), Refusal>
 pub fn append<E: Entry + Copy>(table: &mut [E], count: usize, e: E) -> Result<usize, Reason>
     ensures { Appends E.kind count table.old e result table.new }
 {
-    if let Some(reason) = append_fault(table.len(), count, time_before(table, count), &e) {
-        return Err(reason);
-    }
+    End::of(table, count).after(&e)?;
     Ok(add_last(table, count, e))
 }
 
@@ -80,14 +62,4 @@ fn add_last<E: Copy>(table: &mut [E], count: usize, e: E) -> usize
 {
     table[count] = e;
     count + 1
-}
-
-// Moves the counted entries after a place down by one.
-fn move_down<E: Copy>(table: &mut [E], place: usize, count: usize)
-    requires { (place < count) × (count ≤ length table.old) }
-    ensures { table.new ≡ over (remove (take count table.old) place) table.old }
-{
-    for i in place..count - 1 {
-        table[i] = table[i + 1];
-    }
 }

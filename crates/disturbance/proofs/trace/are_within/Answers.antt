@@ -1,4 +1,4 @@
-use Rattle.std.proofs.Common.{◌≡◌, ℕ, ◌<◌, Bool, true, false, List, length, Decides, MatchBool, refl, arith, rules, tests}
+use Rattle.std.proofs.Common.{ℕ, ◌<◌, Bool, true, false, List, length, Decides, MatchBool, refl, arith, rules, tests}
 use Rattle.std.specs.List.{AllWithin, HoldsAt}
 use Rattle.std.proofs.lemmas.Iterator.{cases_from_all, YieldsList-from_slice}
 use Rattle.recording.specs.declared.sample.Sample.{Sample}

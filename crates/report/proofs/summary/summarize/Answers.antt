@@ -15,14 +15,14 @@ counted_recovery-recovery-requires g c =
     let l = loaded c.args.table.now _ (g.R.Recording.meaning c.args.recording.now) _ c.load.new.self c.load.result c.new-docket.ensures.empty c.load.ensures.outcome c.load.ensures.count (c.load.ensures.history [] new (c.new-docket.ensures.history c.args.table.now)) in
     taken_sound _ _ _ _ _ l c.in_ok-count.count c.in_ok-count.was
 
-pub returns-in-Ok : goal.returns-in-Ok
-returns-in-Ok g c =
+pub returns : goal.returns
+returns g c =
     let l = loaded c.args.table.now _ (g.R.Recording.meaning c.args.recording.now) _ c.load.new.self c.load.result c.new-docket.ensures.empty c.load.ensures.outcome c.load.ensures.count (c.load.ensures.history [] new (c.new-docket.ensures.history c.args.table.now)) in
-    let o = close_told _ _ _ _ _ l c.in_ok-count.count c.in_ok-count.was c.close.result c.in-Ok.closed c.disturbance-disturbance.result c.counted_recovery-recovery.result c.close.ensures.history c.in-Ok.is c.disturbance-disturbance.ensures c.counted_recovery-recovery.ensures in
+    let o = close_told _ _ _ _ _ l c.in_ok-count.count c.in_ok-count.was c.close.result c.in_ok-closed.closed c.disturbance-disturbance.result c.counted_recovery-recovery.result c.close.ensures.history c.in_ok-closed.was c.disturbance-disturbance.ensures c.counted_recovery-recovery.ensures in
     record { outcome = o; only = only_told _ _ _ _ _ l _ o; table = l.table }
 
-pub returns-in-Err : goal.returns-in-Err
-returns-in-Err g c =
+pub returns-in_err-closed : goal.returns-in_err-closed
+returns-in_err-closed g c =
     let l = loaded c.args.table.now _ (g.R.Recording.meaning c.args.recording.now) _ c.load.new.self c.load.result c.new-docket.ensures.empty c.load.ensures.outcome c.load.ensures.count (c.load.ensures.history [] new (c.new-docket.ensures.history c.args.table.now)) in
-    let o = close_refused _ _ _ _ _ l c.in_ok-count.count c.in_ok-count.was c.close.result c.in-Err.kept c.close.ensures.history c.in-Err.is in
+    let o = close_refused _ _ _ _ _ l c.in_ok-count.count c.in_ok-count.was c.close.result c.in_err-closed.field-0.0 c.from_residual-in_err-closed.result c.close.ensures.history c.in_err-closed.was c.from_residual-in_err-closed.ensures.1 in
     record { outcome = o; only = only_told _ _ _ _ _ l _ o; table = l.table }

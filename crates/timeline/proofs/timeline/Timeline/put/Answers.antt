@@ -1,8 +1,9 @@
-use Rattle.timeline.proofs.Timelines.{no_fault, put_accepted}
+use Rattle.timeline.proofs.Checks.{no_fault}
+use Rattle.timeline.proofs.Timelines.{put_accepted}
 use Rattle.timeline.proofs.timeline.Timeline.put.Goals as goal
 
 pub returns : goal.returns
 returns g c =
-    put_accepted g.E.Entry.kind c.args.self.count c.args.self.table.now c.args.e c.put_fault.result c.put_fault.ensures.first c.put_fault.ensures.value
-    (no_fault _ _ _ c.put_fault.result c.in_ok-allow.ensures)
+    put_accepted g.E.Entry.kind c.args.self.count c.args.self.table.now c.args.e c.check_put.ensures.first
+    (no_fault _ _ _ _ _ c.check_put.ensures.answer c.map_err.ensures.variant c.in_ok-map_err.was)
     c.add_last.result _ c.add_last.ensures.count c.add_last.ensures.table

@@ -1,0 +1,23 @@
+// One pass over the stretches of a trace.
+ghost use Rattle.disturbance.specs.Stretches.{FirstFound};
+
+use crate::stretch::Stretch;
+use crate::trace::Trace;
+
+// What is found on the first stretch on which anything is, or none.
+pub(crate) fn first_found<T, F: Fn(Stretch) -> Option<T>>(trace: Trace, find: F) -> Option<T>
+    requires { F.IsAlwaysCallable find }
+    ensures { FirstFound (F.post find) trace.entry.samples.now result }
+{
+    // Not by `find_map`: its closure would have to require of a pair what the loop knows of it.
+    for pair in trace.samples.windows(2) {
+        let stretch = Stretch {
+            before: pair[0],
+            after: pair[1],
+        };
+        if let Some(found) = find(stretch) {
+            return Some(found);
+        }
+    }
+    None
+}
