@@ -1,7 +1,7 @@
 // How the tests ask for a delivery, and what they expect of the answer.
 use delivery::deliver::deliver;
 use disturbance::disturbance::find_disturbance;
-use disturbance::trace::{Trace, is_sound};
+use disturbance::trace::Trace;
 use figure::report::{Claim, Report, Verdict};
 use recording::refusal::Refusal;
 use recording::sample::Sample;
@@ -75,11 +75,7 @@ pub(crate) fn ruled<R: ResponseRule>(
     rule: &R,
 ) -> Result<Result<Report, Refusal>, Fail> {
     let settings = Settings::new(case.settings)?;
-    let samples = case.samples;
-    if !is_sound(samples) {
-        return Err(Fail::new("sound samples were expected"));
-    }
-    let trace = Trace { samples };
+    let trace = Trace::new(case.samples).ok_or("sound samples were expected")?;
     let disturbance = find_disturbance(trace).ok_or("a disturbance was expected")?;
     Ok(deliver(
         trace,

@@ -2,13 +2,13 @@
 use crate::asking::*;
 use crate::records::*;
 use disturbance::disturbance::find_disturbance;
-use disturbance::trace::{Trace, is_sound};
+use disturbance::trace::Trace;
 use recording::sample::Sample;
 use response::service::Service;
 use std::test::Fail;
 
 fn undisturbed(samples: &[Sample]) -> bool {
-    is_sound(samples) && find_disturbance(Trace { samples }).is_none()
+    Trace::new(samples).is_some_and(|trace| find_disturbance(trace).is_none())
 }
 
 #[test]
