@@ -76,7 +76,7 @@ pub struct Refusal {
 }
 
 impl Field {
-    // 1 time, 2 frequency, 3 power.
+    // 1 time, 2 frequency, 3 power: a number, since a refusal's field is told by its number.
     pub fn number(self) -> u8
         ensures { result ≡ field_number self }
     {
@@ -107,7 +107,7 @@ impl From<Reason> for Refusal {
 }
 
 impl Refusal {
-    // The number in the list of refusals.
+    // The number in the list of refusals, which is what an operator is told.
     pub fn number(self) -> u8
         ensures { result ≡ (listed self.reason).number }
     {
@@ -146,11 +146,20 @@ impl Refusal {
             | Reason::OutOfOrder
             | Reason::NoDisturbance => Layer::Docket,
             Reason::SettingOutside | Reason::UnknownCode => Layer::Setup,
-            _ => Layer::Delivery,
+            Reason::AmountOutside
+            | Reason::OtherDirection
+            | Reason::OtherTargets
+            | Reason::NoBaseSample
+            | Reason::OutsideTargets
+            | Reason::NoTriggerTime
+            | Reason::EmptyFirstWindow
+            | Reason::WindowOutside
+            | Reason::WideGap => Layer::Delivery,
         }
     }
 
-    // The field that is outside its limits: 1 time, 2 frequency, 3 power; 0 with any other reason.
+    // The number of the field that is outside its limits: 1 time, 2 frequency, 3 power; 0, as the list of
+    // refusals has it, with any other reason.
     pub fn field(self) -> u8
         ensures { result ≡ (listed self.reason).field }
     {

@@ -7,9 +7,7 @@ use crate::text::outcome_text;
 use recording::makes::{ByteRecording, Make};
 use recording::sample::Sample;
 use std::alloc::{AllocError, Global};
-
-// The places of the table, as many as a docket may hold samples.
-const PLACES: usize = 4_096;
+use timeline::sample::MOST_SAMPLES;
 
 // What every place of the table holds at first; a new docket does not count it.
 const BLANK: Sample = Sample {
@@ -23,8 +21,9 @@ pub fn report(heap: Global, bytes: &[u8]) -> Result<String, AllocError>
     ensures text { IfOk result (λ s. Reports bytes.now (string_bytes s)) }
     ensures only { IfOk result (λ s. ((t : List ℕ) → Reports bytes.now t → t ≡ string_bytes s)) }
 {
-    let mut table = vec![in heap; BLANK; PLACES]?;
+    // as many places as a docket may hold samples
+    let mut table = vec![in heap; BLANK; MOST_SAMPLES]?;
     let recording = ByteRecording::new(Make::Whole, bytes);
-    let outcome = summarize(table.as_mut_slice(), &recording);
+    let outcome = summarize(&mut table, &recording);
     outcome_text(heap, outcome)
 }

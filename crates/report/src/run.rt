@@ -1,9 +1,11 @@
 // A whole run of the program: standard input in, the report out.
 use crate::report::report;
+use recording::makes::RECORD;
 use std::io::Read;
+use timeline::sample::MOST_SAMPLES;
 
-// The most bytes that are read: 4,096 records and one more, so that a full table is noticed.
-const MOST: u64 = 49_164;
+// The most bytes that are read: the records of a full table and one more, so that a full one is noticed.
+const MOST: u64 = RECORD as u64 * (MOST_SAMPLES as u64 + 1);
 
 // Reads a recording in whole units from standard input and prints its report.
 pub fn run(rt: &HostRuntime) -> anyhow::Result<()> {

@@ -19,6 +19,9 @@ pub const WIDEST_DEAD_BAND: u32 = 150;
 // The earliest begin of the base window, in ms before the disturbance.
 pub const EARLIEST_BEGIN: u32 = 60_000;
 
+// The dip from which a ramp is counted, in mHz.
+pub const RAMP_START: u32 = 150;
+
 // A setting from one limit to the other, which is refused outside them.
 pub(crate) fn within(least: u32, greatest: u32, setting: u32) -> Result<u32, Refusal>
     ensures { Granted result (Within least greatest setting) (λ granted. granted ≡ setting) }

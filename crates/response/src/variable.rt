@@ -3,12 +3,10 @@ ghost use Rattle.std.specs.Prelude.{◌≡◌, ℕ, ◌≤◌, None};
 ghost use Rattle.response.specs.VariableRule.{VariableLaws, WeightOf, factor_of};
 ghost use Rattle.response.specs.Weights.{Weighs, weight_value};
 
+use crate::limits::RAMP_START;
 use crate::rule::ResponseRule;
 use crate::setup::{Rate, Response, Trigger};
 use crate::weighing::{Dip, Offset, Weight};
-
-// Where the ramp starts, in mHz.
-const RAMP_START: u64 = 150;
 
 // The rule with a ramp rate, which need not be the settings' own.
 #[derive(Clone, Copy)]
@@ -45,7 +43,7 @@ impl Variable {
             return Weight { n: 1, d: 1 };
         }
         let d = 1_000 * (dip.mhz as u32 - dead);
-        let ramp = 1_000 * RAMP_START + offset.ms as u64 * self.rate.mhz_per_s as u64;
+        let ramp = 1_000 * RAMP_START as u64 + offset.ms as u64 * self.rate.mhz_per_s as u64;
         let over = ramp.min(1_000 * self.response.reference_dip as u64) as u32 - 1_000 * dead;
         Weight {
             n: over.clamp(d, 3 * d),
