@@ -2,7 +2,7 @@
 
 // Time in ms; how far the frequency lies on the side of the disturbance, in mHz; the power that
 // works against the disturbance, in W.
-#[derive(Clone, Copy, Debug, PartialEq, Eq)]
+#[derive(Clone, Copy)]
 pub struct Point {
     pub time: u32,
     pub dip: i64,

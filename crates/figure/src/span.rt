@@ -2,7 +2,7 @@
 
 // From `start` to `end` in ms, after the shift and the cut at recovery. It may begin before the
 // clock does.
-#[derive(Clone, Copy, Debug, PartialEq, Eq)]
+#[derive(Clone, Copy)]
 pub struct Span {
     pub start: i64,
     pub end: i64,
