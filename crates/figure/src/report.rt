@@ -21,7 +21,7 @@ pub struct Report {
 }
 
 // What an owner claims: a service, and the amount that was enabled for it, in W.
-#[derive(Clone, Copy, Debug, PartialEq, Eq)]
+#[derive(Clone, Copy)]
 pub struct Claim {
     pub service: Service,
     pub enabled: i64,
