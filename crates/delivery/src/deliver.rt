@@ -12,7 +12,7 @@ use crate::defects::{early_defect, span_defect};
 use crate::footing::Footing;
 use crate::judging::judged;
 use crate::shift::shift;
-use crate::spans::{Spans, placed};
+use crate::spans::placed_row;
 use crate::terms::Terms;
 use crate::values::window_values;
 use disturbance::disturbance::Disturbance;
@@ -62,10 +62,8 @@ fn deliver_over<R: ResponseRule>(
     let counted = early_defect(footing, targets, count, terms)?;
     let time = disturbance.time;
     let by = shift(settings.response.rate, time, trigger, triggered).ok_or(Reason::NoTriggerTime)?;
-    let first = placed(time, by, restored, terms.row.first);
-    let second = placed(time, by, restored, terms.row.second);
-    let spans = Spans { first, second };
-    span_defect(trace, terms.row.widest_gap, spans)?;
+    let spans = placed_row(time, by, restored, terms.row);
+    span_defect(trace, spans)?;
     let from = basis(footing, counted);
     let found = window_values(trace, disturbance.direction, restored, spans, from, rule);
     Ok(judged(time, restored, found, terms))

@@ -34,7 +34,7 @@ returns-in_err-span_defect g c =
     let z : SFits w64 c.in_ok-by.by = search rules in
     let a = (asked g c.args.trace.samples.now c.args.disturbance c.args.settings.now c.args.rule.now c.args.targets.now c.args.count c.args.terms) in
     let shifted = shifts a _ _ _ _ c.trigger-trigger.ensures.answer c.base.ensures c.recovery-restored.ensures.first c.reached-triggered.ensures c.shift.ensures.is ∙ shift_found _ _ _ c.ok_or.ensures.value c.in_ok-by.was in
-    refused_late a _ _ _ _ c.trigger-trigger.ensures.answer c.base.ensures c.recovery-restored.ensures.first c.reached-triggered.ensures c.in_ok-counted.ensures.defect c.in_ok-by.by shifted _ _ (simp (to_z-of_z w64 c.in_ok-by.by z) at c.placed-first.ensures) (simp (to_z-of_z w64 c.in_ok-by.by z) at c.placed-second.ensures)
+    refused_late a _ _ _ _ c.trigger-trigger.ensures.answer c.base.ensures c.recovery-restored.ensures.first c.reached-triggered.ensures c.in_ok-counted.ensures.defect c.in_ok-by.by shifted _ (simp (to_z-of_z w64 c.in_ok-by.by z) at c.placed_row-spans.ensures.first) (simp (to_z-of_z w64 c.in_ok-by.by z) at c.placed_row-spans.ensures.second) c.placed_row-spans.ensures.widest
     _ _ c.in_err-span_defect.ensures c.from_residual-in_err-span_defect.ensures.1
 
 pub basis-from-requires : goal.basis-from-requires
@@ -45,9 +45,9 @@ basis-from-requires g c =
 
 pub window_values-found-requires : goal.window_values-found-requires
 window_values-found-requires g c =
-    let none = none_apply (span_defects c.args.trace.samples.now c.args.terms.row.widest_gap c.placed-first.result c.placed-second.result) c.in_ok-span_defect.ensures in
+    let none = none_apply (span_defects c.args.trace.samples.now c.placed_row-spans.result.widest_gap c.placed_row-spans.result.first c.placed_row-spans.result.second) c.in_ok-span_defect.ensures in
     record {
-      times = (subst (λ (w : Span). w.multiplier ≤ 2) (sym c.placed-first.ensures) c.requires.first.times.1, subst (λ (w : Span). w.multiplier ≤ 2) (sym c.placed-second.ensures) c.requires.second.times.1);
+      times = (subst (λ (w : Span). w.multiplier ≤ 2) (sym c.placed_row-spans.ensures.first) c.requires.first.times.1, subst (λ (w : Span). w.multiplier ≤ 2) (sym c.placed_row-spans.ensures.second) c.requires.second.times.1);
       stand = (none.0, ((λ b. none.1.0 (inl b)), (λ b. none.1.0 (inr b))));
     }
 
@@ -56,7 +56,7 @@ returns g c =
     let z : SFits w64 c.in_ok-by.by = search rules in
     let a = (asked g c.args.trace.samples.now c.args.disturbance c.args.settings.now c.args.rule.now c.args.targets.now c.args.count c.args.terms) in
     let shifted = shifts a _ _ _ _ c.trigger-trigger.ensures.answer c.base.ensures c.recovery-restored.ensures.first c.reached-triggered.ensures c.shift.ensures.is ∙ shift_found _ _ _ c.ok_or.ensures.value c.in_ok-by.was in
-    let first = simp (to_z-of_z w64 c.in_ok-by.by z) at c.placed-first.ensures in
-    let second = simp (to_z-of_z w64 c.in_ok-by.by z) at c.placed-second.ensures in
-    reported a _ _ _ _ c.trigger-trigger.ensures.answer c.base.ensures c.recovery-restored.ensures.first c.reached-triggered.ensures c.in_ok-counted.ensures.defect c.in_ok-by.by shifted _ _ first second _ c.in_ok-span_defect.ensures
+    let first = simp (to_z-of_z w64 c.in_ok-by.by z) at c.placed_row-spans.ensures.first in
+    let second = simp (to_z-of_z w64 c.in_ok-by.by z) at c.placed_row-spans.ensures.second in
+    reported a _ _ _ _ c.trigger-trigger.ensures.answer c.base.ensures c.recovery-restored.ensures.first c.reached-triggered.ensures c.in_ok-counted.ensures.defect c.in_ok-by.by shifted _ first second c.placed_row-spans.ensures.widest _ c.in_ok-span_defect.ensures
     (fills a _ _ c.basis-from.result _ c.in_ok-counted.counted.all.now _ _ c.base.ensures first second c.basis-from.ensures.time c.in_ok-counted.ensures.counted c.basis-from.ensures.base _ _ c.window_values-found.ensures.first c.window_values-found.ensures.second c.judged.ensures)
