@@ -41,8 +41,7 @@ pub(crate) fn window_values<R: ResponseRule>(
     let second = if is_empty(spans.second) {
         None
     } else {
-        let window = on_clock(spans.second);
-        Some(window_value(before, direction, window, basis, rule))
+        Some(window_value(before, direction, on_clock(spans.second), basis, rule))
     };
     Values { first, second }
 }
