@@ -70,8 +70,9 @@ fn deliver_over<R: ResponseRule>(
 }
 
 // The delivery of a service on a sound record with its disturbance: the report, or the first defect
-// in the checking order. It changes nothing. The targets are the caller's table, with its count beside
-// it. Each promise is a clause of its own, so that it can be cited by its name.
+// in the checking order. It changes nothing. It asks for a record and its disturbance apart: a closed
+// docket keeps its disturbance as plain numbers. The targets are the caller's table, with its count
+// beside it. Each promise is a clause of its own, so that it can be cited by its name.
 pub fn deliver<R: ResponseRule>(
     trace: Trace,
     disturbance: Disturbance,

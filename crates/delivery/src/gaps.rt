@@ -34,5 +34,7 @@ fn is_gap(a: Sample, b: Sample, spans: Spans) -> bool
 pub(crate) fn is_gapped(samples: &[Sample], spans: Spans) -> bool
     ensures { Decides result (Gapped samples.now spans.widest_gap spans.first ⊎ Gapped samples.now spans.widest_gap spans.second) }
 {
-    samples.windows(2).any(|pair| is_gap(pair[0], pair[1], spans))
+    samples
+        .windows(2)
+        .any(|pair| is_gap(pair[0], pair[1], spans))
 }

@@ -15,7 +15,8 @@ fn ramp_time(rate: Rate, trigger: Trigger) -> u32
     ((trigger.dip - RAMP_START) * 1_000).div_ceil(rate.mhz_per_s)
 }
 
-// The shift in ms: 0 without a trigger, none where the trigger time does not exist.
+// The shift in ms: 0 without a trigger, none where the trigger time does not exist. None, and no reason:
+// the caller names it.
 pub(crate) fn shift(
     rate: Rate,
     disturbance: u32,

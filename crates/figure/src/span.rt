@@ -1,7 +1,7 @@
 // A window on the clock of the record.
 
 // From `start` to `end` in ms, after the shift and the cut at recovery. It may begin before the
-// clock does.
+// clock does. Not a `Window`: its ends are signed.
 #[derive(Clone, Copy, Debug, PartialEq, Eq)]
 pub struct Span {
     pub start: i64,
