@@ -20,7 +20,7 @@ use disturbance::recovery::recovery;
 use disturbance::trace::Trace;
 use disturbance::trigger::trigger_time;
 use figure::report::{Claim, Report};
-use recording::refusal::{Reason, Refusal};
+use recording::refusal::Refusal;
 use response::rule::ResponseRule;
 use response::settings::Settings;
 use response::setup::Trigger;
@@ -61,7 +61,7 @@ fn deliver_over<R: ResponseRule>(
     };
     let counted = early_defect(footing, targets, count, terms)?;
     let time = disturbance.time;
-    let by = shift(settings.response.rate, time, trigger, triggered).ok_or(Reason::NoTriggerTime)?;
+    let by = shift(settings.response.rate, time, trigger, triggered)?;
     let spans = placed_row(time, by, restored, terms.row);
     span_defect(trace, spans)?;
     let from = basis(footing, counted);

@@ -1,4 +1,4 @@
-use Rattle.std.proofs.Common.{ℕ, ◌≤◌, List, sym, ◌∙◌, subst, inl, inr, w64, SFits, rules}
+use Rattle.std.proofs.Common.{ℕ, ◌≤◌, List, sym, refl, ◌∙◌, subst, inl, inr, w64, SFits, rules}
 use Rattle.std.proofs.lemmas.Int.{to_z-of_z}
 use Rattle.figure.specs.declared.span.Span.{Span}
 use Rattle.figure.specs.Defects.{MissedByTargets, early_defects, span_defects}
@@ -25,15 +25,15 @@ returns-in_err-counted g c = refused_early (asked g c.args.trace.samples.now c.a
 pub returns-in_err-by : goal.returns-in_err-by
 returns-in_err-by g c =
     let a = (asked g c.args.trace.samples.now c.args.disturbance c.args.settings.now c.args.rule.now c.args.targets.now c.args.count c.args.terms) in
-    let lost = shift_lost _ _ _ c.ok_or.ensures.value c.in_err-by.was in
-    let none = shifts a _ _ _ _ c.trigger-trigger.ensures.answer c.base.ensures c.recovery-restored.ensures.first c.reached-triggered.ensures c.shift.ensures.is ∙ lost.0 in
+    let lost = shift_lost _ _ _ c.shift.ensures.is c.in_err-by.was in
+    let none = shifts a _ _ _ _ c.trigger-trigger.ensures.answer c.base.ensures c.recovery-restored.ensures.first c.reached-triggered.ensures refl ∙ lost.0 in
     refused_never a _ _ _ _ c.trigger-trigger.ensures.answer c.base.ensures c.recovery-restored.ensures.first c.reached-triggered.ensures c.in_ok-counted.ensures.defect _ _ (none, lost.1) c.from_residual-in_err-by.ensures.1
 
 pub returns-in_err-span_defect : goal.returns-in_err-span_defect
 returns-in_err-span_defect g c =
     let z : SFits w64 c.in_ok-by.by = search rules in
     let a = (asked g c.args.trace.samples.now c.args.disturbance c.args.settings.now c.args.rule.now c.args.targets.now c.args.count c.args.terms) in
-    let shifted = shifts a _ _ _ _ c.trigger-trigger.ensures.answer c.base.ensures c.recovery-restored.ensures.first c.reached-triggered.ensures c.shift.ensures.is ∙ shift_found _ _ _ c.ok_or.ensures.value c.in_ok-by.was in
+    let shifted = shifts a _ _ _ _ c.trigger-trigger.ensures.answer c.base.ensures c.recovery-restored.ensures.first c.reached-triggered.ensures refl ∙ shift_found _ _ _ c.shift.ensures.is c.in_ok-by.was in
     refused_late a _ _ _ _ c.trigger-trigger.ensures.answer c.base.ensures c.recovery-restored.ensures.first c.reached-triggered.ensures c.in_ok-counted.ensures.defect c.in_ok-by.by shifted _ (simp (to_z-of_z w64 c.in_ok-by.by z) at c.placed_row-spans.ensures.first) (simp (to_z-of_z w64 c.in_ok-by.by z) at c.placed_row-spans.ensures.second) c.placed_row-spans.ensures.widest
     _ _ c.in_err-span_defect.ensures c.from_residual-in_err-span_defect.ensures.1
 
@@ -55,7 +55,7 @@ pub returns : goal.returns
 returns g c =
     let z : SFits w64 c.in_ok-by.by = search rules in
     let a = (asked g c.args.trace.samples.now c.args.disturbance c.args.settings.now c.args.rule.now c.args.targets.now c.args.count c.args.terms) in
-    let shifted = shifts a _ _ _ _ c.trigger-trigger.ensures.answer c.base.ensures c.recovery-restored.ensures.first c.reached-triggered.ensures c.shift.ensures.is ∙ shift_found _ _ _ c.ok_or.ensures.value c.in_ok-by.was in
+    let shifted = shifts a _ _ _ _ c.trigger-trigger.ensures.answer c.base.ensures c.recovery-restored.ensures.first c.reached-triggered.ensures refl ∙ shift_found _ _ _ c.shift.ensures.is c.in_ok-by.was in
     let first = simp (to_z-of_z w64 c.in_ok-by.by z) at c.placed_row-spans.ensures.first in
     let second = simp (to_z-of_z w64 c.in_ok-by.by z) at c.placed_row-spans.ensures.second in
     reported a _ _ _ _ c.trigger-trigger.ensures.answer c.base.ensures c.recovery-restored.ensures.first c.reached-triggered.ensures c.in_ok-counted.ensures.defect c.in_ok-by.by shifted _ first second c.placed_row-spans.ensures.widest _ c.in_ok-span_defect.ensures
