@@ -58,8 +58,8 @@ module _ (a : Asked) (recovery S : Option ℕ) (trigger : Option Trigger) (base 
   earlier : (r : Option Reason) → FirstFault (early_defects a.samples a.disturbance base a.table a.count a.side a.amount) r → FirstFault (early_of a) r
   earlier r h = subst (λ (w : BaseWindow). FirstFault (early_defects a.samples a.disturbance w a.table a.count a.side a.amount) r) bases h
 
-  pub shifts : {o : Option ℤ} → o ≡ shift_of a.settings.response.rate.mhz_per_s a.disturbance.time trigger S → shift_in a S ≡ o
-  shifts e = sym (e ∙ ap (λ (g : Option Trigger). shift_of a.settings.response.rate.mhz_per_s a.disturbance.time g S) asks)
+  pub shifts : {o : Option ℤ} → shift_of a.settings.response.rate.mhz_per_s a.disturbance.time trigger S ≡ o → shift_in a S ≡ o
+  shifts {o} e = subst (λ (g : Option Trigger). shift_of a.settings.response.rate.mhz_per_s a.disturbance.time g S ≡ o) asks e
 
   refused : (why : Reason) (r : Result Report Refusal) → FirstFault (defects a recovery S) (Some why) → Refuses why r → Delivers a r
   refused why (Ok report) h e = absurd e

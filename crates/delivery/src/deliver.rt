@@ -51,9 +51,9 @@ fn deliver_over<R: ResponseRule>(
     requires { SoundRow terms.row }
     ensures { Delivers (asked_by trace.entry.samples.now disturbance settings.now (R.ResponseRule.triggers rule.now) (R.ResponseRule.weighs rule.now) targets.now count terms.side terms.row terms.enabled) result }
 {
-    let restored = recovery(trace, disturbance);
+    let recovered = recovery(trace, disturbance);
     let trigger = rule.trigger();
-    let triggered = reached(trace, disturbance, restored, trigger);
+    let triggered = reached(trace, disturbance, recovered, trigger);
     let footing = Footing {
         trace,
         disturbance,
@@ -61,12 +61,13 @@ fn deliver_over<R: ResponseRule>(
     };
     let counted = early_defect(footing, targets, count, terms)?;
     let time = disturbance.time;
-    let by = shift(settings.response.rate, time, trigger, triggered)?;
-    let spans = placed_row(time, by, restored, terms.row);
+    let direction = disturbance.direction;
+    let shifted_by = shift(settings.response.rate, time, trigger, triggered)?;
+    let spans = placed_row(time, shifted_by, recovered, terms.row);
     span_defect(trace, spans)?;
-    let from = basis(footing, counted);
-    let found = window_values(trace, disturbance.direction, restored, spans, from, rule);
-    Ok(judged(time, restored, found, terms))
+    let counted_from = basis(footing, counted);
+    let values = window_values(trace, direction, recovered, spans, counted_from, rule);
+    Ok(judged(time, recovered, values, terms))
 }
 
 // The delivery of a service on a sound record with its disturbance: the report, or the first defect
