@@ -54,10 +54,8 @@ impl Footing<'_> {
         ensures { Decides result ((0 < length targets.entry.all.now) × (OneMissed targets.entry.all.now (points_on self.entry))) }
     {
         let direction = self.disturbance.direction;
-        self.trace.samples.iter().any(|sample| self.misses_point(
-            targets,
-            turned(direction, *sample),
-        ))
+        let samples = self.trace.samples;
+        samples.iter().any(|sample| self.misses_point(targets, turned(direction, *sample)))
     }
 
     // Whether, with targets, the disturbance or a base sample is at a time that they miss. Without

@@ -1,12 +1,11 @@
-// Gaps between neighbouring samples.
+// Gaps between neighbouring samples: two samples, and no slice of two, whose length each function would
+// have to ask for.
 ghost use Rattle.std.specs.Prelude.{◌-◌, ◌<◌, ◌⊎◌, Decides};
 ghost use Rattle.figure.specs.Defects.{Shares, Gapped};
 
 use crate::spans::Spans;
 use figure::span::Span;
 use recording::sample::Sample;
-
-// Two samples, and no slice of two: each function would have to ask for its length.
 
 // Whether two samples share more than an instant with a window.
 fn shares(a: Sample, b: Sample, span: Span) -> bool
@@ -22,7 +21,8 @@ fn is_wide(a: Sample, b: Sample, widest: u32) -> bool
     widest < b.time.saturating_sub(a.time)
 }
 
-// Whether they are, and share more than an instant with one of two windows.
+// Whether two samples are further apart than the widest gap, and share more than an instant with one of
+// two windows.
 fn is_gap(a: Sample, b: Sample, spans: Spans) -> bool
     ensures { Decides result ((spans.widest_gap < b.time - a.time) × (Shares a b spans.first ⊎ Shares a b spans.second)) }
 {
