@@ -28,6 +28,7 @@ use Rattle.figure.specs.Exactness.{Faithful}
 use Rattle.figure.proofs.Faithful.{reports_are_faithful}
 use Rattle.figure.proofs.Shifted.{never_first, spans_first}
 use Rattle.delivery.specs.declared.basis.Basis.{Basis}
+use Rattle.delivery.specs.declared.spans.Spans.{Spans}
 use Rattle.delivery.specs.declared.values.Values.{Values}
 use Rattle.delivery.specs.Filling.{Filled}
 
@@ -57,8 +58,8 @@ module _ (a : Asked) (recovery S : Option ℕ) (trigger : Option Trigger) (base 
   earlier : (r : Option Reason) → FirstFault (early_defects a.samples a.disturbance base a.table a.count a.side a.amount) r → FirstFault (early_of a) r
   earlier r h = subst (λ (w : BaseWindow). FirstFault (early_defects a.samples a.disturbance w a.table a.count a.side a.amount) r) bases h
 
-  pub shifts : {o : Option ℤ} → o ≡ shift_of a.settings.response.rate.mhz_per_s a.disturbance.time trigger S → shift_in a S ≡ o
-  shifts e = sym (e ∙ ap (λ (g : Option Trigger). shift_of a.settings.response.rate.mhz_per_s a.disturbance.time g S) asks)
+  pub shifts : {o : Option ℤ} → shift_of a.settings.response.rate.mhz_per_s a.disturbance.time trigger S ≡ o → shift_in a S ≡ o
+  shifts {o} e = subst (λ (g : Option Trigger). shift_of a.settings.response.rate.mhz_per_s a.disturbance.time g S ≡ o) asks e
 
   refused : (why : Reason) (r : Result Report Refusal) → FirstFault (defects a recovery S) (Some why) → Refuses why r → Delivers a r
   refused why (Ok report) h e = absurd e
@@ -72,16 +73,20 @@ module _ (a : Asked) (recovery S : Option ℕ) (trigger : Option Trigger) (base 
     refused_never why r none e = refused why r (subst (λ (w : Reason). FirstFault (defects a recovery S) (Some w)) (sym none.1) (first_behind (early_of a) (window_defects a recovery S) _ (earlier None early) (never_first a recovery S times.triggers none.0))) e
 
     -- the windows at the shift
-    module _ (z : ℤ) (shifted : shift_in a S ≡ Some z) (one two : Span) (first : one ≡ first_span a recovery z) (second : two ≡ second_span a recovery z) where
-      later : (r : Option Reason) → FirstFault (span_defects a.samples a.row.widest_gap one two) r → FirstFault (defects a recovery S) r
+    module _ (z : ℤ) (shifted : shift_in a S ≡ Some z) (spans : Spans) (first : spans.first ≡ first_span a recovery z) (second : spans.second ≡ second_span a recovery z) (widest : spans.widest_gap ≡ a.row.widest_gap) where
+      abbrev found : Option Reason → Type 0
+      found r = FirstFault (span_defects a.samples spans.widest_gap spans.first spans.second) r
+
+      later : (r : Option Reason) → found r → FirstFault (defects a recovery S) r
       later r h = first_behind (early_of a) (window_defects a recovery S) r (earlier None early) (spans_first a recovery S times.triggers z r shifted
           (subst (λ (w : Span). FirstFault (span_defects a.samples a.row.widest_gap (first_span a recovery z) w) r) second
-          (subst (λ (w : Span). FirstFault (span_defects a.samples a.row.widest_gap w two) r) first h)))
+          (subst (λ (w : Span). FirstFault (span_defects a.samples a.row.widest_gap w spans.second) r) first
+          (subst (λ (n : ℕ). FirstFault (span_defects a.samples n spans.first spans.second) r) widest h))))
 
-      pub refused_late : (why : Reason) (r : Result Report Refusal) → FirstFault (span_defects a.samples a.row.widest_gap one two) (Some why) → Refuses why r → Delivers a r
+      pub refused_late : (why : Reason) (r : Result Report Refusal) → found (Some why) → Refuses why r → Delivers a r
       refused_late why r h e = refused why r (later (Some why) h) e
 
-      pub reported : (report : Report) → FirstFault (span_defects a.samples a.row.widest_gap one two) None → Reports a recovery z report → Delivers a (Ok report)
+      pub reported : (report : Report) → found None → Reports a recovery z report → Delivers a (Ok report)
       reported report h r = record { recovery = recovery; trigger_time = S; times = times; why = None; first = later None h; answer = (z, report, shifted, refl, r) }
 
 -- the values of the windows, counted from a time and a base

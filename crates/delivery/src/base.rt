@@ -61,8 +61,8 @@ fn base_push(point: Point, targets: Targets, disturbance: Disturbance) -> i128
     pushed + (there - here).max(0)
 }
 
-// What responses are counted from: the base is half-up of the mean of the base pushes. One pass over
-// the samples.
+// What responses are counted from: the base is half-up of the mean of the base pushes. A loop: a chain
+// would pass over the samples twice, for the sum and for the count.
 pub(crate) fn basis(footing: Footing, targets: Targets) -> Basis
     requires some { points_on footing ≡ [] → ⊥ }
     requires reached { MissedByTargets targets.all.now footing.disturbance.time (points_on footing) → ⊥ }
@@ -73,11 +73,10 @@ pub(crate) fn basis(footing: Footing, targets: Targets) -> Basis
     let mut count: u64 = 0;
     for sample in footing.trace.samples {
         let point = turned(footing.disturbance.direction, *sample);
-        if !footing.counts(point) {
-            continue;
+        if footing.counts(point) {
+            sum += base_push(point, targets, footing.disturbance);
+            count += 1;
         }
-        sum += base_push(point, targets, footing.disturbance);
-        count += 1;
     }
     Basis {
         disturbance: footing.disturbance.time,

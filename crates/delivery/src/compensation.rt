@@ -32,7 +32,8 @@ fn weight_at<R: ResponseRule>(point: Point, disturbance: u32, rule: &R) -> Weigh
 }
 
 // The compensated response in hundredths of a watt: the response times the weight, half-up. The rule
-// stands beside the basis: a struct of both would have to be lent itself, and would shorten no clause.
+// stands beside the basis: the caller lends it, and a struct of basis and rule would have to be lent
+// itself.
 pub(crate) fn compensated<R: ResponseRule>(point: Point, basis: Basis, rule: &R) -> i128
     requires { Tame point }
     ensures is { whole result ≡ response_from (R.ResponseRule.weighs rule.now) basis point }

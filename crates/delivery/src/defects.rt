@@ -67,8 +67,8 @@ fn is_one_beyond(trace: Trace, spans: Spans) -> bool
 }
 
 // The first defect of two windows.
-pub(crate) fn span_defect(trace: Trace, widest: u32, spans: Spans) -> Result<(), Reason>
-    ensures { FirstFault (span_defects trace.entry.samples.now widest spans.first spans.second) (result_err result) }
+pub(crate) fn span_defect(trace: Trace, spans: Spans) -> Result<(), Reason>
+    ensures { FirstFault (span_defects trace.entry.samples.now spans.widest_gap spans.first spans.second) (result_err result) }
 {
     if is_empty(spans.first) {
         return Err(Reason::EmptyFirstWindow);
@@ -76,7 +76,7 @@ pub(crate) fn span_defect(trace: Trace, widest: u32, spans: Spans) -> Result<(),
     if is_one_beyond(trace, spans) {
         return Err(Reason::WindowOutside);
     }
-    if is_gapped(trace.samples, widest, spans) {
+    if is_gapped(trace.samples, spans) {
         return Err(Reason::WideGap);
     }
     Ok(())

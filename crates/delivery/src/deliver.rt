@@ -12,7 +12,7 @@ use crate::defects::{early_defect, span_defect};
 use crate::footing::Footing;
 use crate::judging::judged;
 use crate::shift::shift;
-use crate::spans::{Spans, placed};
+use crate::spans::placed_row;
 use crate::terms::Terms;
 use crate::values::window_values;
 use disturbance::disturbance::Disturbance;
@@ -20,7 +20,7 @@ use disturbance::recovery::recovery;
 use disturbance::trace::Trace;
 use disturbance::trigger::trigger_time;
 use figure::report::{Claim, Report};
-use recording::refusal::{Reason, Refusal};
+use recording::refusal::Refusal;
 use response::rule::ResponseRule;
 use response::settings::Settings;
 use response::setup::Trigger;
@@ -51,9 +51,9 @@ fn deliver_over<R: ResponseRule>(
     requires { SoundRow terms.row }
     ensures { Delivers (asked_by trace.entry.samples.now disturbance settings.now (R.ResponseRule.triggers rule.now) (R.ResponseRule.weighs rule.now) targets.now count terms.side terms.row terms.enabled) result }
 {
-    let restored = recovery(trace, disturbance);
+    let recovered = recovery(trace, disturbance);
     let trigger = rule.trigger();
-    let triggered = reached(trace, disturbance, restored, trigger);
+    let triggered = reached(trace, disturbance, recovered, trigger);
     let footing = Footing {
         trace,
         disturbance,
@@ -61,19 +61,19 @@ fn deliver_over<R: ResponseRule>(
     };
     let counted = early_defect(footing, targets, count, terms)?;
     let time = disturbance.time;
-    let by = shift(settings.response.rate, time, trigger, triggered).ok_or(Reason::NoTriggerTime)?;
-    let first = placed(time, by, restored, terms.row.first);
-    let second = placed(time, by, restored, terms.row.second);
-    let spans = Spans { first, second };
-    span_defect(trace, terms.row.widest_gap, spans)?;
-    let from = basis(footing, counted);
-    let found = window_values(trace, disturbance.direction, restored, spans, from, rule);
-    Ok(judged(time, restored, found, terms))
+    let direction = disturbance.direction;
+    let shifted_by = shift(settings.response.rate, time, trigger, triggered)?;
+    let spans = placed_row(time, shifted_by, recovered, terms.row);
+    span_defect(trace, spans)?;
+    let counted_from = basis(footing, counted);
+    let values = window_values(trace, direction, recovered, spans, counted_from, rule);
+    Ok(judged(time, recovered, values, terms))
 }
 
 // The delivery of a service on a sound record with its disturbance: the report, or the first defect
-// in the checking order. It changes nothing. The targets are the caller's table, with its count beside
-// it. Each promise is a clause of its own, so that it can be cited by its name.
+// in the checking order. It changes nothing. It asks for a record and its disturbance apart: a closed
+// docket keeps its disturbance as plain numbers. The targets are the caller's table, with its count
+// beside it. Each promise is a clause of its own, so that it can be cited by its name.
 pub fn deliver<R: ResponseRule>(
     trace: Trace,
     disturbance: Disturbance,

@@ -42,21 +42,24 @@ impl Footing<'_> {
     }
 
     // Whether a point counts for the base and is at a time that the targets miss.
-    fn has_missed(self, targets: Targets, point: Point) -> bool
+    fn misses_point(self, targets: Targets, point: Point) -> bool
         ensures { Decides result ((is_base self.entry.disturbance.time self.entry.window point ≡ true) × ((0 < length targets.entry.all.now) × (Missed targets.entry.all.now point.time))) }
     {
         self.counts(point) && targets.miss(point.time)
     }
 
-    // Whether one of the samples does and is. One pass over them.
+    // Whether one of the samples counts for the base and is at a time that the targets miss. One pass
+    // over them.
     fn misses_one(self, targets: Targets) -> bool
         ensures { Decides result ((0 < length targets.entry.all.now) × (OneMissed targets.entry.all.now (points_on self.entry))) }
     {
         let direction = self.disturbance.direction;
-        self.trace.samples.iter().any(|sample| self.has_missed(targets, turned(direction, *sample)))
+        let samples = self.trace.samples;
+        samples.iter().any(|sample| self.misses_point(targets, turned(direction, *sample)))
     }
 
-    // Whether, with targets, the disturbance or a base sample is at such a time.
+    // Whether, with targets, the disturbance or a base sample is at a time that they miss. Without
+    // targets no sample is looked at.
     pub(crate) fn is_missed(self, targets: Targets) -> bool
         ensures { Decides result (MissedByTargets targets.entry.all.now self.entry.disturbance.time (points_on self.entry)) }
     {

@@ -1,4 +1,5 @@
-// Gaps between neighbouring samples.
+// Gaps between neighbouring samples: two samples, and no slice of two, whose length each function would
+// have to ask for.
 ghost use Rattle.std.specs.Prelude.{◌-◌, ◌<◌, ◌⊎◌, Decides};
 ghost use Rattle.figure.specs.Defects.{Shares, Gapped};
 
@@ -20,19 +21,20 @@ fn is_wide(a: Sample, b: Sample, widest: u32) -> bool
     widest < b.time.saturating_sub(a.time)
 }
 
-// Whether they are, and share more than an instant with one of two windows.
-fn is_gap(a: Sample, b: Sample, widest: u32, spans: Spans) -> bool
-    ensures { Decides result ((widest < b.time - a.time) × (Shares a b spans.first ⊎ Shares a b spans.second)) }
+// Whether two samples are further apart than the widest gap, and share more than an instant with one of
+// two windows.
+fn is_gap(a: Sample, b: Sample, spans: Spans) -> bool
+    ensures { Decides result ((spans.widest_gap < b.time - a.time) × (Shares a b spans.first ⊎ Shares a b spans.second)) }
 {
-    is_wide(a, b, widest) && (shares(a, b, spans.first) || shares(a, b, spans.second))
+    is_wide(a, b, spans.widest_gap) && (shares(a, b, spans.first) || shares(a, b, spans.second))
 }
 
 // Whether neighbouring samples in one of two windows are further apart than the widest gap. One
 // pass over the samples.
-pub(crate) fn is_gapped(samples: &[Sample], widest: u32, spans: Spans) -> bool
-    ensures { Decides result (Gapped samples.now widest spans.first ⊎ Gapped samples.now widest spans.second) }
+pub(crate) fn is_gapped(samples: &[Sample], spans: Spans) -> bool
+    ensures { Decides result (Gapped samples.now spans.widest_gap spans.first ⊎ Gapped samples.now spans.widest_gap spans.second) }
 {
     samples
         .windows(2)
-        .any(|pair| is_gap(pair[0], pair[1], widest, spans))
+        .any(|pair| is_gap(pair[0], pair[1], spans))
 }

@@ -29,7 +29,8 @@ fn before(trace: Trace<'_>, time: u32) -> Trace<'_>
     }
 }
 
-// The samples that are used: those before any recovery.
+// The samples that are used: those before any recovery. Not by `map_or`: what holds for every direction
+// is not found through its closure.
 pub(crate) fn used(trace: Trace<'_>, recovery: Option<u32>) -> Trace<'_>
     ensures { (d : _) → course d result.samples.now ≡ used_points recovery (course d trace.entry.samples.now) }
 {

@@ -1,12 +1,12 @@
 // How far the windows of a service are shifted.
-ghost use Rattle.std.specs.Prelude.{◌≡◌, ◌^◌, IfSome};
+ghost use Rattle.std.specs.Prelude.{◌≡◌, ◌^◌, IfOk};
+ghost use Rattle.std.specs.Option.{ok_or};
 ghost use Rattle.exact.specs.Limits.{Within};
 ghost use Rattle.figure.specs.Windows.{ramp_time, shift_of};
 
+use recording::refusal::Reason;
+use response::limits::RAMP_START;
 use response::setup::{Rate, Trigger};
-
-// The dip from which a ramp is counted, in mHz.
-const RAMP_START: u32 = 150;
 
 // The whole milliseconds that a dip takes to the trigger at the ramp rate, rounded up.
 fn ramp_time(rate: Rate, trigger: Trigger) -> u32
@@ -15,19 +15,19 @@ fn ramp_time(rate: Rate, trigger: Trigger) -> u32
     ((trigger.dip - RAMP_START) * 1_000).div_ceil(rate.mhz_per_s)
 }
 
-// The shift in ms: 0 without a trigger, none where the trigger time does not exist.
+// The shift in ms: 0 without a trigger, refused where the trigger time does not exist.
 pub(crate) fn shift(
     rate: Rate,
     disturbance: u32,
     trigger: Option<Trigger>,
     trigger_time: Option<u32>,
-) -> Option<i64>
-    ensures is { result ≡ shift_of rate.mhz_per_s disturbance trigger trigger_time }
-    ensures within { IfSome result (λ z. Within (2 ^ 40) z) }
+) -> Result<i64, Reason>
+    ensures is { result ≡ ok_or (shift_of rate.mhz_per_s disturbance trigger trigger_time) Reason.NoTriggerTime }
+    ensures within { IfOk result (λ z. Within (2 ^ 40) z) }
 {
     let Some(dip) = trigger else {
-        return Some(0);
+        return Ok(0);
     };
-    let reached = trigger_time?;
-    Some(reached as i64 - disturbance as i64 - ramp_time(rate, dip) as i64)
+    let reached = trigger_time.ok_or(Reason::NoTriggerTime)?;
+    Ok(reached as i64 - disturbance as i64 - ramp_time(rate, dip) as i64)
 }

@@ -6,13 +6,15 @@ ghost use Rattle.figure.specs.Defects.{Beyond};
 
 use disturbance::trace::Trace;
 use figure::span::Span;
-use response::group::Window;
+use response::group::{Row, Window};
 
-// The two windows of a service.
+// A row on the clock: the two windows of a service, and the widest gap between neighbouring samples in
+// them, in ms.
 #[derive(Clone, Copy)]
 pub(crate) struct Spans {
     pub(crate) first: Span,
     pub(crate) second: Span,
+    pub(crate) widest_gap: u32,
 }
 
 // The earlier of a time and any recovery.
@@ -23,7 +25,7 @@ fn cut(recovery: Option<u32>, time: i64) -> i64
 }
 
 // A window after the shift, cut at recovery.
-pub(crate) fn placed(disturbance: u32, shift: i64, recovery: Option<u32>, window: Window) -> Span
+fn placed(disturbance: u32, shift: i64, recovery: Option<u32>, window: Window) -> Span
     requires { Within (2 ^ 40) shift }
     ensures { result ≡ placed_at disturbance shift recovery window }
 {
@@ -32,6 +34,20 @@ pub(crate) fn placed(disturbance: u32, shift: i64, recovery: Option<u32>, window
         start: from + window.start as i64,
         end: cut(recovery, from + window.end as i64),
         multiplier: window.multiplier,
+    }
+}
+
+// The windows of a row after the shift, cut at recovery.
+pub(crate) fn placed_row(disturbance: u32, shift: i64, recovery: Option<u32>, row: Row) -> Spans
+    requires { Within (2 ^ 40) shift }
+    ensures first { result.first ≡ placed_at disturbance shift recovery row.first }
+    ensures second { result.second ≡ placed_at disturbance shift recovery row.second }
+    ensures widest { result.widest_gap ≡ row.widest_gap }
+{
+    Spans {
+        first: placed(disturbance, shift, recovery, row.first),
+        second: placed(disturbance, shift, recovery, row.second),
+        widest_gap: row.widest_gap,
     }
 }
 

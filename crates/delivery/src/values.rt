@@ -37,16 +37,11 @@ pub(crate) fn window_values<R: ResponseRule>(
     ensures second { or_none whole result.second ≡ or_none (value_of to_half_up (response_from (R.ResponseRule.weighs rule.now) basis) (used_points recovery (course direction trace.entry.samples.now))) (unless_empty spans.second) }
 {
     let before = used(trace, recovery);
-    let value = window_value(before, direction, on_clock(spans.first), basis, rule);
-    if is_empty(spans.second) {
-        return Values {
-            first: value,
-            second: None,
-        };
-    }
-    let other = window_value(before, direction, on_clock(spans.second), basis, rule);
-    Values {
-        first: value,
-        second: Some(other),
-    }
+    let first = window_value(before, direction, on_clock(spans.first), basis, rule);
+    let second = if is_empty(spans.second) {
+        None
+    } else {
+        Some(window_value(before, direction, on_clock(spans.second), basis, rule))
+    };
+    Values { first, second }
 }

@@ -18,8 +18,9 @@ use response::group::Window;
 use response::rule::ResponseRule;
 
 // Twice the area under the compensated response in a window. One pass over the samples, which asks
-// the rule once for each. The trace and the direction stand apart: the trace is cut at recovery on the
-// way here, and a struct of both would shorten no clause.
+// the rule once for each. A loop: each step needs the point before, and it ends at the window's end.
+// The trace and the direction stand apart: the trace is cut at recovery on the way here, so a struct of
+// both would be taken apart and built anew.
 fn area<R: ResponseRule>(
     trace: Trace,
     direction: Direction,

@@ -6,13 +6,11 @@ use Rattle.delivery.proofs.Courses.{holds_at}
 use Rattle.delivery.proofs.Basing.{start, passed, this, sum_more, again, counts_some, mean_held, wide, some_kept}
 use Rattle.delivery.proofs.Grounds.{at_disturbance, at_each}
 use Rattle.delivery.proofs.Sounds.{usable}
+use Rattle.delivery.proofs.base.basis.Goals.{then-counts, else-counts}
 use Rattle.delivery.proofs.base.basis.Goals as goal
 
 pub loop-sample-init : goal.loop-sample-init
 loop-sample-init c = start (at_each c.args.targets.all.now c.args.targets.rising _ _ c.requires.reached)
-
-pub loop-sample-preserved-then-not-counts : goal.loop-sample-preserved-then-not-counts
-loop-sample-preserved-then-not-counts c = passed c.loop-sample.invariant c.loop-sample-test.true _ c.turned-point.ensures c.if-not-counts.ensures
 
 pub base_push-sum-requires : goal.base_push-sum-requires
 base_push-sum-requires c =
@@ -20,14 +18,18 @@ base_push-sum-requires c =
     let d = c.args.footing.disturbance.direction in
     record {
       small = (holds_at d trace.samples.now c.loop-sample.sample-index c.loop-sample-test.true _ c.turned-point.result c.turned-point.ensures Tame (usable d trace.samples.now trace.sound).tame).push_within;
-      begins = (at_disturbance c.args.targets.all.now c.args.targets.rising _ _ c.requires.reached, this c.loop-sample.invariant c.loop-sample-test.true _ c.turned-point.ensures c.if-not-counts.ensures);
+      begins = (at_disturbance c.args.targets.all.now c.args.targets.rising _ _ c.requires.reached, this c.loop-sample.invariant c.loop-sample-test.true _ c.turned-point.ensures c.if-counts.ensures);
     }
 
 pub overflow_add-sum : goal.overflow_add-sum
-overflow_add-sum c = (sum_more c.loop-sample.invariant c.loop-sample-test.true _ c.turned-point.ensures c.if-not-counts.ensures c.base_push-sum.ensures.is c.base_push-sum.ensures.within (omega (arith, c.loop-sample.invariant.few))).fits
+overflow_add-sum c = (sum_more c.loop-sample.invariant c.loop-sample-test.true _ c.turned-point.ensures c.if-counts.ensures c.base_push-sum.ensures.is c.base_push-sum.ensures.within (omega (arith, c.loop-sample.invariant.few))).fits
 
 pub loop-sample-preserved : goal.loop-sample-preserved
-loop-sample-preserved c = again c.loop-sample.invariant c.loop-sample-test.true _ c.turned-point.ensures c.if-not-counts.ensures c.base_push-sum.ensures.is c.base_push-sum.ensures.within (omega (arith, c.loop-sample.invariant.few))
+loop-sample-preserved c =
+    elim c.if-counts.branch [
+      | then-counts w ↦ rw (w.sum-is, w.count-is) (again c.loop-sample.invariant c.loop-sample-test.true _ c.turned-point.ensures w.if-counts.ensures w.base_push-sum.ensures.is w.base_push-sum.ensures.within (omega (arith, c.loop-sample.invariant.few)))
+      | else-counts w ↦ rw (w.sum-is, w.count-is) (passed c.loop-sample.invariant c.loop-sample-test.true _ c.turned-point.ensures w.if-counts.ensures)
+    ]
 
 pub half_up-requires : goal.half_up-requires
 half_up-requires c = (counts_some c.loop-sample.invariant c.loop-sample-test.false (some_kept _ c.requires.some), wide c.loop-sample.invariant (omega (arith, c.loop-sample.invariant.few)))

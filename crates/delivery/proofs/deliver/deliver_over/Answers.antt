@@ -1,4 +1,4 @@
-use Rattle.std.proofs.Common.{ℕ, ◌≤◌, List, sym, ◌∙◌, subst, inl, inr, w64, SFits, rules}
+use Rattle.std.proofs.Common.{ℕ, ◌≤◌, List, sym, subst, inl, inr, w64, SFits, rules}
 use Rattle.std.proofs.lemmas.Int.{to_z-of_z}
 use Rattle.figure.specs.declared.span.Span.{Span}
 use Rattle.figure.specs.Defects.{MissedByTargets, early_defects, span_defects}
@@ -20,43 +20,43 @@ abbrev asked : (g : given.Over) → List Sample → Disturbance → Settings →
 asked g xs d settings rule table count terms = asked_by xs d settings (g.R.ResponseRule.triggers rule) (g.R.ResponseRule.weighs rule) table count terms.side terms.row terms.enabled
 
 pub returns-in_err-counted : goal.returns-in_err-counted
-returns-in_err-counted g c = refused_early (asked g c.args.trace.samples.now c.args.disturbance c.args.settings.now c.args.rule.now c.args.targets.now c.args.count c.args.terms) _ _ _ _ c.trigger-trigger.ensures.answer c.base.ensures c.recovery-restored.ensures.first c.reached-triggered.ensures _ _ c.in_err-counted.ensures.defect c.from_residual.ensures.1
+returns-in_err-counted g c = refused_early (asked g c.args.trace.samples.now c.args.disturbance c.args.settings.now c.args.rule.now c.args.targets.now c.args.count c.args.terms) _ _ _ _ c.trigger-trigger.ensures.answer c.base.ensures c.recovery-recovered.ensures.first c.reached-triggered.ensures _ _ c.in_err-counted.ensures.defect c.from_residual.ensures.1
 
-pub returns-in_err-by : goal.returns-in_err-by
-returns-in_err-by g c =
+pub returns-in_err-shifted_by : goal.returns-in_err-shifted_by
+returns-in_err-shifted_by g c =
     let a = (asked g c.args.trace.samples.now c.args.disturbance c.args.settings.now c.args.rule.now c.args.targets.now c.args.count c.args.terms) in
-    let lost = shift_lost _ _ _ c.ok_or.ensures.value c.in_err-by.was in
-    let none = shifts a _ _ _ _ c.trigger-trigger.ensures.answer c.base.ensures c.recovery-restored.ensures.first c.reached-triggered.ensures c.shift.ensures.is ∙ lost.0 in
-    refused_never a _ _ _ _ c.trigger-trigger.ensures.answer c.base.ensures c.recovery-restored.ensures.first c.reached-triggered.ensures c.in_ok-counted.ensures.defect _ _ (none, lost.1) c.from_residual-in_err-by.ensures.1
+    let lost = shift_lost _ _ _ c.shift.ensures.is c.in_err-shifted_by.was in
+    let none = shifts a _ _ _ _ c.trigger-trigger.ensures.answer c.base.ensures c.recovery-recovered.ensures.first c.reached-triggered.ensures lost.0 in
+    refused_never a _ _ _ _ c.trigger-trigger.ensures.answer c.base.ensures c.recovery-recovered.ensures.first c.reached-triggered.ensures c.in_ok-counted.ensures.defect _ _ (none, lost.1) c.from_residual-in_err-shifted_by.ensures.1
 
 pub returns-in_err-span_defect : goal.returns-in_err-span_defect
 returns-in_err-span_defect g c =
-    let z : SFits w64 c.in_ok-by.by = search rules in
+    let z : SFits w64 c.in_ok-shifted_by.shifted_by = search rules in
     let a = (asked g c.args.trace.samples.now c.args.disturbance c.args.settings.now c.args.rule.now c.args.targets.now c.args.count c.args.terms) in
-    let shifted = shifts a _ _ _ _ c.trigger-trigger.ensures.answer c.base.ensures c.recovery-restored.ensures.first c.reached-triggered.ensures c.shift.ensures.is ∙ shift_found _ _ _ c.ok_or.ensures.value c.in_ok-by.was in
-    refused_late a _ _ _ _ c.trigger-trigger.ensures.answer c.base.ensures c.recovery-restored.ensures.first c.reached-triggered.ensures c.in_ok-counted.ensures.defect c.in_ok-by.by shifted _ _ (simp (to_z-of_z w64 c.in_ok-by.by z) at c.placed-first.ensures) (simp (to_z-of_z w64 c.in_ok-by.by z) at c.placed-second.ensures)
+    let shifted = shifts a _ _ _ _ c.trigger-trigger.ensures.answer c.base.ensures c.recovery-recovered.ensures.first c.reached-triggered.ensures (shift_found _ _ _ c.shift.ensures.is c.in_ok-shifted_by.was) in
+    refused_late a _ _ _ _ c.trigger-trigger.ensures.answer c.base.ensures c.recovery-recovered.ensures.first c.reached-triggered.ensures c.in_ok-counted.ensures.defect c.in_ok-shifted_by.shifted_by shifted _ (simp (to_z-of_z w64 c.in_ok-shifted_by.shifted_by z) at c.placed_row-spans.ensures.first) (simp (to_z-of_z w64 c.in_ok-shifted_by.shifted_by z) at c.placed_row-spans.ensures.second) c.placed_row-spans.ensures.widest
     _ _ c.in_err-span_defect.ensures c.from_residual-in_err-span_defect.ensures.1
 
-pub basis-from-requires : goal.basis-from-requires
-basis-from-requires g c =
+pub basis-counted_from-requires : goal.basis-counted_from-requires
+basis-counted_from-requires g c =
     let footing : Footing = record { trace = c.args.trace; disturbance = c.args.disturbance; window = c.base.result } in
     let none = none_apply (early_defects c.args.trace.samples.now c.args.disturbance c.base.result c.args.targets.now c.args.count c.args.terms.side c.args.terms.enabled) c.in_ok-counted.ensures.defect in
     record { some = none.1.1.1.0; reached = subst (λ (gs : List Target). MissedByTargets gs c.args.disturbance.time (points_on footing) → ⊥) (sym c.in_ok-counted.ensures.counted) none.1.1.1.1.0 }
 
-pub window_values-found-requires : goal.window_values-found-requires
-window_values-found-requires g c =
-    let none = none_apply (span_defects c.args.trace.samples.now c.args.terms.row.widest_gap c.placed-first.result c.placed-second.result) c.in_ok-span_defect.ensures in
+pub window_values-values-requires : goal.window_values-values-requires
+window_values-values-requires g c =
+    let none = none_apply (span_defects c.args.trace.samples.now c.placed_row-spans.result.widest_gap c.placed_row-spans.result.first c.placed_row-spans.result.second) c.in_ok-span_defect.ensures in
     record {
-      times = (subst (λ (w : Span). w.multiplier ≤ 2) (sym c.placed-first.ensures) c.requires.first.times.1, subst (λ (w : Span). w.multiplier ≤ 2) (sym c.placed-second.ensures) c.requires.second.times.1);
+      times = (subst (λ (w : Span). w.multiplier ≤ 2) (sym c.placed_row-spans.ensures.first) c.requires.first.times.1, subst (λ (w : Span). w.multiplier ≤ 2) (sym c.placed_row-spans.ensures.second) c.requires.second.times.1);
       stand = (none.0, ((λ b. none.1.0 (inl b)), (λ b. none.1.0 (inr b))));
     }
 
 pub returns : goal.returns
 returns g c =
-    let z : SFits w64 c.in_ok-by.by = search rules in
+    let z : SFits w64 c.in_ok-shifted_by.shifted_by = search rules in
     let a = (asked g c.args.trace.samples.now c.args.disturbance c.args.settings.now c.args.rule.now c.args.targets.now c.args.count c.args.terms) in
-    let shifted = shifts a _ _ _ _ c.trigger-trigger.ensures.answer c.base.ensures c.recovery-restored.ensures.first c.reached-triggered.ensures c.shift.ensures.is ∙ shift_found _ _ _ c.ok_or.ensures.value c.in_ok-by.was in
-    let first = simp (to_z-of_z w64 c.in_ok-by.by z) at c.placed-first.ensures in
-    let second = simp (to_z-of_z w64 c.in_ok-by.by z) at c.placed-second.ensures in
-    reported a _ _ _ _ c.trigger-trigger.ensures.answer c.base.ensures c.recovery-restored.ensures.first c.reached-triggered.ensures c.in_ok-counted.ensures.defect c.in_ok-by.by shifted _ _ first second _ c.in_ok-span_defect.ensures
-    (fills a _ _ c.basis-from.result _ c.in_ok-counted.counted.all.now _ _ c.base.ensures first second c.basis-from.ensures.time c.in_ok-counted.ensures.counted c.basis-from.ensures.base _ _ c.window_values-found.ensures.first c.window_values-found.ensures.second c.judged.ensures)
+    let shifted = shifts a _ _ _ _ c.trigger-trigger.ensures.answer c.base.ensures c.recovery-recovered.ensures.first c.reached-triggered.ensures (shift_found _ _ _ c.shift.ensures.is c.in_ok-shifted_by.was) in
+    let first = simp (to_z-of_z w64 c.in_ok-shifted_by.shifted_by z) at c.placed_row-spans.ensures.first in
+    let second = simp (to_z-of_z w64 c.in_ok-shifted_by.shifted_by z) at c.placed_row-spans.ensures.second in
+    reported a _ _ _ _ c.trigger-trigger.ensures.answer c.base.ensures c.recovery-recovered.ensures.first c.reached-triggered.ensures c.in_ok-counted.ensures.defect c.in_ok-shifted_by.shifted_by shifted _ first second c.placed_row-spans.ensures.widest _ c.in_ok-span_defect.ensures
+    (fills a _ _ c.basis-counted_from.result _ c.in_ok-counted.counted.all.now _ _ c.base.ensures first second c.basis-counted_from.ensures.time c.in_ok-counted.ensures.counted c.basis-counted_from.ensures.base _ _ c.window_values-values.ensures.first c.window_values-values.ensures.second c.judged.ensures)
