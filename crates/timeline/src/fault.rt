@@ -1,12 +1,12 @@
 // What sends a call on a timeline back: the first in the checking order that applies.
-// The table and the count beside it come apart, since a `Timeline` holds its table to be written, and
-// these only read.
+// The table and the count come apart: a closed docket's table and a delivery's are lent to be read,
+// and no `Timeline`, which holds its table to be written, can be made of them.
 ghost use Rattle.std.specs.Prelude.{[], ◌∷◌};
 ghost use Rattle.timeline.specs.Checks.{Allows};
 ghost use Rattle.timeline.specs.Faults.{other_table, put_checks, amend_checks, strike_checks};
 
 use crate::end::End;
-use crate::entry::Entry;
+use crate::entry::{Entry, check_fields};
 use crate::order::{is_misplaced, is_sound, time_after, time_before};
 use recording::refusal::Reason;
 
@@ -36,10 +36,7 @@ pub fn check_amend<E: Entry>(table: &[E], count: usize, place: usize, e: &E) -> 
     ensures { Allows (amend_checks E.kind count table.now place e.now) tt result }
 {
     check_strike(table, count, place)?;
-    // A field found by a question, which is an error only here.
-    if let Some(field) = e.outside() {
-        return Err(Reason::OutsideLimits(field));
-    }
+    check_fields(e)?;
     let counted = &table[..count];
     let before = time_before(counted, place);
     let after = time_after(counted, place);
