@@ -1,6 +1,7 @@
 // A reading put at the end of the counted samples of a table, or in the place of one.
-// The caller's table and the docket's count come apart: where the reading gives no sample, the table is
-// only checked, and the refusal of a put is at the count.
+// The caller's table and the docket's count come apart: the check does not cover a parameter that
+// holds a table to be written and is passed on, so a `Timeline` would be taken apart here and made
+// again.
 ghost use Rattle.docket.specs.Dockets.{PutsReading, AmendsReading};
 
 use recording::reading::Reading;
