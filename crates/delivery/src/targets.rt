@@ -6,7 +6,7 @@ ghost use Rattle.figure.specs.Defects.{BadTargets, Missed};
 ghost use Rattle.delivery.specs.Limits.{Aimed, RisingTargets, no_target};
 
 use recording::refusal::Reason;
-use timeline::order::is_sound;
+use timeline::fault::check_table;
 use timeline::target::Target;
 
 // Each is within its limits and later than the one before.
@@ -21,9 +21,7 @@ pub(crate) struct Targets<'a> {
 pub(crate) fn counted(table: &[Target], count: usize) -> Result<Targets<'_>, Reason>
     ensures { MatchResult result (λ targets. (Sound kind count table.now) × (targets.all.now ≡ take count table.now)) (λ why. (BadTargets count table.now) × (why ≡ Reason.OtherTargets)) }
 {
-    if !is_sound(table, count) {
-        return Err(Reason::OtherTargets);
-    }
+    check_table(table, count).map_err(|_| Reason::OtherTargets)?;
     Ok(Targets {
         all: &table[0..count],
     })

@@ -1,5 +1,5 @@
 -- The reasons against a reading are those against its sample.
-use Rattle.std.proofs.Common.{◌≡◌, ℕ, Bool, true, false, cond, not, leb, List, [], ◌∷◌, ◌++◌, length, take, set, Some, None, Ok, Err, Option, Result, MatchResult, subst, sym, refl, ap, ◌∙◌, arith}
+use Rattle.std.proofs.Common.{◌≡◌, ℕ, Bool, true, false, cond, not, leb, List, [], ◌∷◌, ◌++◌, length, take, set, Some, None, Ok, Err, Option, Result, MatchResult, subst, sym, refl, ap, ◌∙◌}
 use Rattle.recording.specs.declared.refusal.Field.{Field}
 use Rattle.recording.specs.declared.refusal.Field.TheVariants.{Time, Frequency, Power}
 use Rattle.recording.specs.declared.refusal.Reason.{Reason}
@@ -57,12 +57,15 @@ outcome_as cs ds refused xs ys old r new e x t o =
     record { first = the_first ds t; answer = simp (← e, ← x) o.answer; table = simp (← e, ← x) o.table }
 
 -- ---- put and amend of a reading, by those of its sample
+told_put : (n : ℕ) (t : List Sample) (r : Reading) → Told (other_table samples n t ∷ put_reasons (length t) (take n t) r)
+told_put n t r = told_table samples n t (put_reasons (length t) (take n t) r) (told_append readings (length t) (length (take n t)) (time_before samples (take n t) (length (take n t))) r)
+
 pub put_reading_lem : (n : ℕ) (t : List Sample) (r : Reading) (s : Sample) (a : Result ℕ Refusal) (new : List Sample) → sampled r ≡ Ok s → Puts samples n t s a new → PutsReading n t r a new
 put_reading_lem n t r s a new e p =
     outcome_as (put_checks samples n t s) (other_table samples n t ∷ put_reasons (length t) (take n t) r) (λ why. refusal why n 0) (take n t ++ s ∷ []) (take n t ++ samples_in r) t a new
     (ap (λ (o : Option Reason). cond (not (is_sound samples n t)) (Some OtherTable) o) (append_same (length t) (length (take n t)) (time_before samples (take n t) (length (take n t))) r s e))
     (ap (λ (x : Result Sample Field). take n t ++ sample_list x) (sym e))
-    (told_table samples n t (put_reasons (length t) (take n t) r) (told_append readings (length t) (length (take n t)) (time_before samples (take n t) (length (take n t))) r))
+    (told_put n t r)
     p.outcome
 
 told_amend : (xs : List Sample) (i : ℕ) (r : Reading) → Told (amend_reasons xs i r)
@@ -81,35 +84,39 @@ refused_outcome : (cs : List (Check Reason)) (why : Reason) (place : ℕ) (xs ol
 refused_outcome cs why place xs old t e =
     record { first = the_first cs t; answer = ap (answered (λ w. refusal w place 0) (length xs)) (sym e); table = ap (λ (o : Option Reason). written o xs old) (sym e) }
 
-more_some : (a b : Bool) (rest : Option Reason) (why : Reason) → Some why ≡ cond a (Some OtherTable) (cond b (Some BeyondCount) None) → cond a (Some OtherTable) (cond b (Some BeyondCount) rest) ≡ Some why
-more_some true b rest why h = sym h
-more_some false true rest why h = sym h
-more_some false false rest why h = let z : ◌≡◌ {A = ℕ} 0 1 = cc in absurd (omega arith)
+-- the first fault of a list, or else that of what follows it
+abbrev or_else : Option Reason → Option Reason → Option Reason
+or_else None rest = rest
+or_else (Some why) rest = Some why
 
-more_none : (a b : Bool) (rest : Option Reason) → None ≡ cond a (Some OtherTable) (cond b (Some BeyondCount) None) → cond a (Some OtherTable) (cond b (Some BeyondCount) rest) ≡ rest
-more_none true b rest h = let z : ◌≡◌ {A = ℕ} 0 1 = cc in absurd (omega arith)
-more_none false true rest h = let z : ◌≡◌ {A = ℕ} 0 1 = cc in absurd (omega arith)
-more_none false false rest h = refl
+first_by_test : (b : Bool) (why : Reason) (here more rest : Option Reason) → more ≡ or_else here rest → cond b (Some why) more ≡ or_else (cond b (Some why) here) rest
+first_by_test true why here more rest e = refl
+first_by_test false why here more rest e = e
 
-module _ (n : ℕ) (t : List Sample) (i : ℕ) (r : Reading) where
-  -- refused as a strike would be
-  amend_as_strike : (why : Reason) → Some why ≡ first_of (strike_checks samples n t i) → AmendsReading n t i r (Err (refusal why i 0)) t
-  amend_as_strike why h =
-      refused_outcome (other_table samples n t ∷ amend_reasons (take n t) i r) why i (amended (take n t) i r) t (told_table samples n t (amend_reasons (take n t) i r) (told_amend (take n t) i r))
-      (more_some (not (is_sound samples n t)) (leb (length (take n t)) i) (first_of (outside_limits readings r (out_of_order (time_before samples (take n t) i) (time_after samples (take n t) i) (time_of r) ∷ []))) why h)
+first_in_turn : (cs ds : List (Check Reason)) → first_of (cs ++ ds) ≡ or_else (first_of cs) (first_of ds)
+first_in_turn [] ds = refl
+first_in_turn (c ∷ cs) ds = first_by_test c.test c.answer (first_of cs) (first_of (cs ++ ds)) (first_of ds) (first_in_turn cs ds)
 
-  -- else for its field
-  amend_field : (f : Field) → sampled r ≡ Err f → None ≡ first_of (strike_checks samples n t i) → AmendsReading n t i r (Err (refusal (OutsideLimits f) i 0)) t
-  amend_field f e h =
-      let next = out_of_order (time_before samples (take n t) i) (time_after samples (take n t) i) (time_of r) ∷ [] in
-      refused_outcome (other_table samples n t ∷ amend_reasons (take n t) i r) (OutsideLimits f) i (amended (take n t) i r) t (told_table samples n t (amend_reasons (take n t) i r) (told_amend (take n t) i r))
-      (more_none (not (is_sound samples n t)) (leb (length (take n t)) i) (first_of (outside_limits readings r next)) h ∙ field_first readings r f next (ap field_outside e))
+-- refused by what is checked in front, and else for the field
+outside_told : (front next : List (Check Reason)) (place : ℕ) (xs t : List Sample) (r : Reading) (f : Field) (checked : Result (Unit {0}) Reason) (told : Result ℕ Reason) (a : Result ℕ Refusal) → Told (front ++ outside_limits readings r next) → sampled r ≡ Err f → Allows front (tt {0}) checked → told ≡ result_and checked (Err (OutsideLimits f)) → MatchResult told (λ x. a ≡ Ok x) (λ why. a ≡ Err (refusal why place 0)) → Outcome (front ++ outside_limits readings r next) (λ why. refusal why place 0) xs t a t
+outside_told front next place xs t r f (Ok done) told a all e h q m =
+    let is : a ≡ Err (refusal (OutsideLimits f) place 0) = subst (λ (x : Result ℕ Reason). MatchResult x (λ x. a ≡ Ok x) (λ why. a ≡ Err (refusal why place 0))) q m in
+    let none : first_of front ≡ None = ok_none _ _ _ h.answer in
+    rw is (refused_outcome (front ++ outside_limits readings r next) (OutsideLimits f) place xs t all
+    (first_in_turn front (outside_limits readings r next) ∙ ap (λ (o : Option Reason). or_else o (first_of (outside_limits readings r next))) none ∙ field_first readings r f next (ap field_outside e)))
+outside_told front next place xs t r f (Err why) told a all e h q m =
+    let is : a ≡ Err (refusal why place 0) = subst (λ (x : Result ℕ Reason). MatchResult x (λ x. a ≡ Ok x) (λ why. a ≡ Err (refusal why place 0))) q m in
+    let some : first_of front ≡ Some why = err_some _ _ _ h.answer in
+    rw is (refused_outcome (front ++ outside_limits readings r next) why place xs t all
+    (first_in_turn front (outside_limits readings r next) ∙ ap (λ (o : Option Reason). or_else o (first_of (outside_limits readings r next))) some))
 
-  -- and so for what is told of a field once a strike is checked
-  pub amend_outside : (f : Field) (struck : Result (Unit {0}) Reason) (told : Result ℕ Reason) (a : Result ℕ Refusal) → sampled r ≡ Err f → Allows (strike_checks samples n t i) (tt {0}) struck → told ≡ result_and struck (Err (OutsideLimits f)) → MatchResult told (λ x. a ≡ Ok x) (λ why. a ≡ Err (refusal why i 0)) → AmendsReading n t i r a t
-  amend_outside f (Ok done) told a e h q m =
-      let is : a ≡ Err (refusal (OutsideLimits f) i 0) = subst (λ (x : Result ℕ Reason). MatchResult x (λ x. a ≡ Ok x) (λ why. a ≡ Err (refusal why i 0))) q m in
-      rw is (amend_field f e (sym (ok_none _ _ _ h.answer)))
-  amend_outside f (Err why) told a e h q m =
-      let is : a ≡ Err (refusal why i 0) = subst (λ (x : Result ℕ Reason). MatchResult x (λ x. a ≡ Ok x) (λ why. a ≡ Err (refusal why i 0))) q m in
-      rw is (amend_as_strike why (sym (err_some _ _ _ h.answer)))
+-- so put's refusal of a reading once the table is checked, and amend's once a strike is
+pub put_outside : (n : ℕ) (t : List Sample) (r : Reading) (f : Field) (checked : Result (Unit {0}) Reason) (told : Result ℕ Reason) (a : Result ℕ Refusal) → sampled r ≡ Err f → Allows (other_table samples n t ∷ []) (tt {0}) checked → told ≡ result_and checked (Err (OutsideLimits f)) → MatchResult told (λ x. a ≡ Ok x) (λ why. a ≡ Err (refusal why n 0)) → PutsReading n t r a t
+put_outside n t r f checked told a e h q m =
+    let next = full readings (length t) (length (take n t)) ∷ out_of_order (time_before samples (take n t) (length (take n t))) None (time_of r) ∷ [] in
+    outside_told (other_table samples n t ∷ []) next n (take n t ++ samples_in r) t r f checked told a (told_put n t r) e h q m
+
+pub amend_outside : (n : ℕ) (t : List Sample) (i : ℕ) (r : Reading) (f : Field) (checked : Result (Unit {0}) Reason) (told : Result ℕ Reason) (a : Result ℕ Refusal) → sampled r ≡ Err f → Allows (strike_checks samples n t i) (tt {0}) checked → told ≡ result_and checked (Err (OutsideLimits f)) → MatchResult told (λ x. a ≡ Ok x) (λ why. a ≡ Err (refusal why i 0)) → AmendsReading n t i r a t
+amend_outside n t i r f checked told a e h q m =
+    let next = out_of_order (time_before samples (take n t) i) (time_after samples (take n t) i) (time_of r) ∷ [] in
+    outside_told (strike_checks samples n t i) next i (amended (take n t) i r) t r f checked told a (told_table samples n t (amend_reasons (take n t) i r) (told_amend (take n t) i r)) e h q m

@@ -9,19 +9,18 @@ use disturbance::disturbance::{Disturbance, find_disturbance};
 use disturbance::trace::Trace;
 use recording::refusal::Reason;
 use recording::sample::Sample;
-use timeline::order::is_sound;
+use timeline::fault::check_table;
 
 // The disturbance to close on, or why there is none.
 pub(crate) fn closing_disturbance(table: &[Sample], count: usize) -> Result<Disturbance, Reason>
     ensures { result ≡ cond (sound samples count table.now) (ok_or (disturbance_of (take count table.now)) Reason.NoDisturbance) (Err Reason.OtherTable) }
 {
-    if !is_sound(table, count) {
-        return Err(Reason::OtherTable);
-    }
+    check_table(table, count)?;
     counted_disturbance(table, count).ok_or(Reason::NoDisturbance)
 }
 
-// The disturbance of the counted samples of a table that is theirs.
+// The disturbance of the counted samples of a table that is theirs. They are known to be sound here,
+// and `Trace::new` would check them again.
 fn counted_disturbance(table: &[Sample], count: usize) -> Option<Disturbance>
     requires { Sound samples count table.now }
     ensures { result ≡ disturbance_of (take count table.now) }

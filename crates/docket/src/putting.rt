@@ -1,13 +1,13 @@
 // A reading put at the end of the counted samples of a table, or in the place of one.
-// The caller's table and the docket's count beside it are handed on as they are: a `Timeline` of both
-// would be made at each call only to be taken apart.
+// The caller's table and the docket's count come apart: the check does not cover a parameter that
+// holds a table to be written and is passed on, so a `Timeline` would be taken apart here and made
+// again.
 ghost use Rattle.docket.specs.Dockets.{PutsReading, AmendsReading};
 
 use recording::reading::Reading;
 use recording::refusal::{Reason, Refusal};
 use recording::sample::Sample;
-use timeline::fault::check_strike;
-use timeline::order::is_sound;
+use timeline::fault::{check_strike, check_table};
 use timeline::timeline::Timeline;
 
 // Adds the sample of a reading at the end, and answers the new count. A field outside its limits is
@@ -22,12 +22,8 @@ pub(crate) fn put_reading(
     match reading.sample() {
         Ok(sample) => Timeline { table, count }.put(sample),
         Err(field) => {
-            let reason = if is_sound(table, count) {
-                Reason::OutsideLimits(field)
-            } else {
-                Reason::OtherTable
-            };
-            Err(reason.at(count))
+            let refused = check_table(table, count).and(Err(Reason::OutsideLimits(field)));
+            refused.map_err(|reason| reason.at(count))
         }
     }
 }

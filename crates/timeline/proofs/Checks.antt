@@ -58,14 +58,13 @@ err_some None value why e = let z : ◌≡◌ {A = ℕ} 0 1 = cc in absurd (omeg
 err_some (Some other) value why e = cc
 
 -- the same is allowed by other checks that come to the same; its value is let go
-pub done_as : {A F : Type 0} (P : A → Type 0) (cs ds : List (Check F)) (value : A) (r : Result A F) (s : Result (Unit {0}) F) → first_of cs ≡ first_of ds → Told ds → Allows cs value r → is_ok s ≡ is_ok r → MatchResult r P (λ why. s ≡ Err why) → Allows ds (tt {0}) s
-done_as P cs ds value (Ok given) (Ok done) e t a v m =
+pub done_as : {A F : Type 0} (cs ds : List (Check F)) (value : A) (r : Result A F) → first_of cs ≡ first_of ds → Told ds → Allows cs value r → MatchResult r (λ _. Allows ds (tt {0}) (Ok (tt {0}))) (λ why. Allows ds (tt {0}) (Err why))
+done_as cs ds value (Ok given) e t a =
     let none : first_of ds ≡ None = sym e ∙ ok_none (first_of cs) value given a.answer in
     record { first = the_first ds t; answer = ap (λ o. unless o (tt {0})) (sym none) }
-done_as P cs ds value (Ok given) (Err why) e t a v m = grind arith
-done_as P cs ds value (Err why) s e t a v m =
+done_as cs ds value (Err why) e t a =
     let some : first_of ds ≡ Some why = sym e ∙ err_some (first_of cs) value why a.answer in
-    record { first = the_first ds t; answer = m ∙ ap (λ o. unless o (tt {0})) (sym some) }
+    record { first = the_first ds t; answer = ap (λ o. unless o (tt {0})) (sym some) }
 
 -- ---- faults with no test beside them
 -- there is one first fault

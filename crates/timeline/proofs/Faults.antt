@@ -1,17 +1,18 @@
 -- The faults of each call: their tests tell, and what is known where none applies.
-use Rattle.std.proofs.Common.{◌≡◌, ℕ, ◌<◌, ◌≤◌, true, false, List, [], ◌∷◌, length, take, Some, None, Err, is_ok, Decides, Option, Result, MatchResult, sym, refl, ap, ◌∙◌, arith}
+use Rattle.std.proofs.Common.{◌≡◌, ℕ, ◌+◌, ◌<◌, ◌≤◌, true, false, List, [], ◌∷◌, length, take, Some, None, Ok, Err, Decides, Option, Result, MatchResult, sym, refl, ap, ◌∙◌, arith}
 use Rattle.std.proofs.lemmas.List.{length-take-le}
-use Rattle.std.proofs.lemmas.Bool.{leb-false, or_parts}
+use Rattle.std.proofs.lemmas.Bool.{leb-false, or_parts, not-false}
 use Rattle.std.proofs.lemmas.Bool.Decides.{Decides-or, Decides-not}
 use Rattle.recording.specs.declared.refusal.Field.{Field}
 use Rattle.recording.specs.declared.refusal.Field.TheVariants.{Time, Frequency, Power}
 use Rattle.recording.specs.declared.refusal.Reason.{Reason}
 use Rattle.timeline.specs.Checks.{Check, first_of, Allows}
 use Rattle.timeline.specs.declared.end.End.{End}
+use Rattle.timeline.specs.Ends.{end}
 use Rattle.timeline.specs.Entries.{Kind}
 use Rattle.timeline.specs.Orders.{time_before, is_sound}
 use Rattle.timeline.specs.Faults.{other_table, is_field, full, out_of_order, outside_limits, append_faults, put_faults, put_checks}
-use Rattle.timeline.proofs.Checks.{Told, none_found, done_as}
+use Rattle.timeline.proofs.Checks.{Told, none_found, ok_none, done_as}
 use Rattle.timeline.proofs.Orders.{decides_leb, decides_misplaced, decides_sound, before_take}
 
 decides_field : (f : Field) (o : Option Field) → Decides (is_field f o) (o ≡ Some f)
@@ -49,6 +50,10 @@ module _ {E : Type 0} (kind : Kind E) where
   pub past_table : (count : ℕ) (table : List E) (next : List (Check Reason)) → true ≡ is_sound kind count table → first_of next ≡ first_of (other_table kind count table ∷ next)
   past_table count table next h = let e : is_sound kind count table ≡ true = sym h in rw e refl
 
+  -- a table that its check lets through is sound
+  pub sound_allowed : (count : ℕ) (table : List E) → Allows (other_table kind count table ∷ []) (tt {0}) (Ok (tt {0})) → true ≡ is_sound kind count table
+  sound_allowed count table a = sym (not-false (is_sound kind count table) (none_found (other_table kind count table ∷ []) (ok_none (first_of (other_table kind count table ∷ [])) (tt {0}) (tt {0}) a.answer)).0)
+
   -- what is put at the end is added after the counted entries
   module _ (count : ℕ) (table : List E) (e : E) (h : true ≡ is_sound kind count table) where
     put_as_append : first_of (append_faults kind (length table) count (time_before kind table count) e) ≡ first_of (put_checks kind count table e)
@@ -59,8 +64,8 @@ module _ {E : Type 0} (kind : Kind E) where
         rw n (ap (λ before. append_faults kind (length table) count before e) (sym (before_take kind count table))) in
         ap first_of same ∙ past_table count table (put_faults kind (length table) (take count table) e) h
 
-    pub put_allows : (P : End → Type 0) (value : End) (r : Result End Reason) (s : Result (Unit {0}) Reason) → Allows (append_faults kind (length table) count (time_before kind table count) e) value r → is_ok s ≡ is_ok r → MatchResult r P (λ why. s ≡ Err why) → Allows (put_checks kind count table e) (tt {0}) s
-    put_allows P value r s a v m = done_as P _ _ value r s put_as_append (told_put count table e) a v m
+    pub put_allows : (r : Result End Reason) → Allows (append_faults kind (length table) count (time_before kind table count) e) (end (length table) (count + 1) (Some (kind.time e))) r → MatchResult r (λ _. Allows (put_checks kind count table e) (tt {0}) (Ok (tt {0}))) (λ why. Allows (put_checks kind count table e) (tt {0}) (Err why))
+    put_allows r a = done_as _ _ _ r put_as_append (told_put count table e) a
 
   -- an entry that may be added has a place
   pub append_room : (places count : ℕ) (before : Option ℕ) (e : E) → first_of (append_faults kind places count before e) ≡ None → count < places

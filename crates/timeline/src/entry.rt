@@ -1,8 +1,10 @@
 // The entries of a timeline: whatever carries a time.
-ghost use Rattle.std.specs.Prelude.{◌≡◌, ℕ};
+ghost use Rattle.std.specs.Prelude.{◌≡◌, ℕ, []};
+ghost use Rattle.timeline.specs.Checks.{Allows};
 ghost use Rattle.timeline.specs.Entries.{Kind};
+ghost use Rattle.timeline.specs.Faults.{outside_limits};
 
-use recording::refusal::Field;
+use recording::refusal::{Field, Reason};
 
 pub trait Entry {
     ghost kind: { Kind Self };
@@ -21,4 +23,14 @@ pub trait Entry {
     // nothing is refused.
     fn outside(&self) -> Option<Field>
         ensures { result ≡ kind.outside self.now };
+}
+
+// Whether each field of an entry is within its limits, where a field that is not sends a call back.
+pub(crate) fn check_fields<E: Entry>(e: &E) -> Result<(), Reason>
+    ensures { Allows (outside_limits E.kind e.now []) tt result }
+{
+    match e.outside() {
+        None => Ok(()),
+        Some(field) => Err(Reason::OutsideLimits(field)),
+    }
 }

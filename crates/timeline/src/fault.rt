@@ -1,24 +1,34 @@
 // What sends a call on a timeline back: the first in the checking order that applies.
-// The table and the count beside it come apart, since a `Timeline` holds its table to be written, and
-// these only read.
-ghost use Rattle.std.specs.Prelude.{◌≡◌};
+// The table and the count come apart: a closed docket's table and a delivery's are lent to be read,
+// and no `Timeline`, which holds its table to be written, can be made of them.
+ghost use Rattle.std.specs.Prelude.{[], ◌∷◌};
 ghost use Rattle.timeline.specs.Checks.{Allows};
-ghost use Rattle.timeline.specs.Faults.{put_checks, amend_checks, strike_checks};
+ghost use Rattle.timeline.specs.Faults.{other_table, put_checks, amend_checks, strike_checks};
 
 use crate::end::End;
-use crate::entry::Entry;
+use crate::entry::{Entry, check_fields};
 use crate::order::{is_misplaced, is_sound, time_after, time_before};
 use recording::refusal::Reason;
+
+// Whether a table is the count's: it holds as many entries, within their limits and in order.
+pub fn check_table<E: Entry>(table: &[E], count: usize) -> Result<(), Reason>
+    ensures { Allows (other_table E.kind count table.now ∷ []) tt result }
+{
+    if is_sound(table, count) {
+        Ok(())
+    } else {
+        Err(Reason::OtherTable)
+    }
+}
 
 // Whether an entry may be put at the end.
 pub fn check_put<E: Entry>(table: &[E], count: usize, e: &E) -> Result<(), Reason>
     ensures { Allows (put_checks E.kind count table.now e.now) tt result }
 {
-    if is_sound(table, count) {
-        End::of(table, count).after(e).map(|_| ())
-    } else {
-        Err(Reason::OtherTable)
-    }
+    let end = End::of(table, count);
+    check_table(table, count)?;
+    end.after(e)?;
+    Ok(())
 }
 
 // Whether the entry at a place may be replaced by another.
@@ -26,10 +36,7 @@ pub fn check_amend<E: Entry>(table: &[E], count: usize, place: usize, e: &E) -> 
     ensures { Allows (amend_checks E.kind count table.now place e.now) tt result }
 {
     check_strike(table, count, place)?;
-    // A field found by a question, which is an error only here.
-    if let Some(field) = e.outside() {
-        return Err(Reason::OutsideLimits(field));
-    }
+    check_fields(e)?;
     let counted = &table[..count];
     let before = time_before(counted, place);
     let after = time_after(counted, place);
@@ -43,9 +50,7 @@ pub fn check_amend<E: Entry>(table: &[E], count: usize, place: usize, e: &E) -> 
 pub fn check_strike<E: Entry>(table: &[E], count: usize, place: usize) -> Result<(), Reason>
     ensures { Allows (strike_checks E.kind count table.now place) tt result }
 {
-    if !is_sound(table, count) {
-        return Err(Reason::OtherTable);
-    }
+    check_table(table, count)?;
     if place < count {
         Ok(())
     } else {

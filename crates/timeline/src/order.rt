@@ -47,8 +47,7 @@ pub fn is_sound<E: Entry>(table: &[E], count: usize) -> bool
     ensures value { result ≡ is_sound E.kind count table.now }
     ensures sound { Decides result (Sound E.kind count table.now) }
 {
-    match table.get(..count) {
-        Some(counted) => are_within(counted) && are_rising(counted),
-        None => false,
-    }
+    table
+        .get(..count)
+        .is_some_and(|counted| are_within(counted) && are_rising(counted))
 }

@@ -1,7 +1,16 @@
 -- What is put at the end is added after the counted entries.
-use Rattle.timeline.proofs.Faults.{put_allows}
+use Rattle.std.proofs.Common.{Ok, Err}
+use Rattle.std.proofs.lemmas.Result.{err_from_is_err_and}
+use Rattle.timeline.proofs.Faults.{sound_allowed, put_allows}
 use Rattle.timeline.proofs.fault.check_put.Goals as goal
 
-pub returns-then-is_sound : goal.returns-then-is_sound
-returns-then-is_sound g c =
-    put_allows g.E.Entry.kind c.args.count c.args.table.now c.args.e.now c.if-is_sound.ensures.value _ _ c.after.result c.map.result (rw c.of.ensures at c.after.ensures) c.map.ensures.variant c.map.ensures.cases
+pub returns-in_err-after : goal.returns-in_err-after
+returns-in_err-after g c =
+    let kind = g.E.Entry.kind in
+    let p = err_from_is_err_and c.from_residual-in_err-after.result c.from_residual-in_err-after.ensures.1 in
+    rw (p.1, p.2) (put_allows kind c.args.count c.args.table.now c.args.e.now (sound_allowed kind c.args.count c.args.table.now c.in_ok-check_table.ensures) (Err c.in_err-after.field-0.0) (rw c.of-end.ensures at c.in_err-after.ensures))
+
+pub returns : goal.returns
+returns g c =
+    let kind = g.E.Entry.kind in
+    put_allows kind c.args.count c.args.table.now c.args.e.now (sound_allowed kind c.args.count c.args.table.now c.in_ok-check_table.ensures) (Ok c.in_ok-after.field-0) (rw c.of-end.ensures at c.in_ok-after.ensures)
