@@ -15,7 +15,7 @@ const PLAIN: Proposal = Proposal {
     base_end: 8_000,
 };
 
-// What is answered to a setting outside its limits.
+// What is answered to a setting outside its limits. Written out, since a constant calls no function.
 const OUTSIDE: Refusal = Refusal {
     reason: Reason::SettingOutside,
     place: 0,
