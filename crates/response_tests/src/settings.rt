@@ -6,6 +6,7 @@ use response::setup::{Rate, Response, Trigger};
 use std::process::Abort;
 use std::test::Fail;
 
+// Written out in each test crate that asks with it, since no crate is shared by tests.
 const PLAIN: Proposal = Proposal {
     rate: 125,
     reference_dip: 500,
