@@ -14,6 +14,7 @@ use std::process::Abort;
 use std::test::Fail;
 use timeline::target::Target;
 
+// Written out in each test crate that asks with it, since no crate is shared by tests.
 pub(crate) const PLAIN: Proposal = Proposal {
     rate: 125,
     reference_dip: 500,
@@ -113,7 +114,8 @@ fn one(disturbance: u32, recovery: u32, first: i64, verdict: Verdict) -> Report 
     }
 }
 
-// A delivery of the one value, above the enabled amount.
+// A delivery of the one value, above the enabled amount. This and the two like it are names in place of
+// a parameter, so that an example says its verdict in a word.
 pub(crate) fn met(disturbance: u32, recovery: u32, value: i64) -> Report {
     one(disturbance, recovery, value, Verdict::Met)
 }

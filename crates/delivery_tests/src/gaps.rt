@@ -2,6 +2,7 @@
 use crate::asking::*;
 use crate::long::*;
 use crate::records::*;
+use disturbance::direction::Direction;
 use figure::report::Verdict;
 use response::service::Service;
 use response::settings::Proposal;
@@ -86,7 +87,7 @@ fn a_wide_gap_may_touch_a_window(rt: HostRuntime) -> Result<(), Fail> {
 
 #[test]
 fn the_second_window_has_it_too(rt: HostRuntime) -> Result<(), Fail> {
-    let mut samples = slow_record(true);
+    let mut samples = slow_record(Direction::Low);
     samples[18] = at(84_001, 49_800, 115_000);
     samples[19] = at(84_002, 50_200, 0);
     delivers(

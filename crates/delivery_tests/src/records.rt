@@ -16,7 +16,8 @@ pub(crate) fn at(time: u32, frequency: u32, power: i32) -> Sample {
 }
 
 // A fall by 2 mHz a ms from 49,850 at 20,000, so that the disturbance time is 20,001, and one sample
-// more.
+// more. This and the three like it are names in place of parameters, so that an example says in a word
+// which it is.
 pub(crate) fn fallen(last: Sample) -> [Sample; 4] {
     [
         at(5_000, 50_000, 0),

@@ -3,6 +3,7 @@
 use crate::asking::*;
 use crate::long::*;
 use crate::records::*;
+use disturbance::direction::Direction;
 use figure::report::Verdict;
 use response::service::Service;
 use response::settings::Proposal;
@@ -120,7 +121,7 @@ fn recovery_on_a_sample_just_after_the_start(rt: HostRuntime) -> Result<(), Fail
 // then a second window of 1 ms, level at 300,000 W, times 2.
 #[test]
 fn between_the_windows_of_a_fast_service(rt: HostRuntime) -> Result<(), Fail> {
-    let mut samples = fast_record(true);
+    let mut samples = fast_record(Direction::Low);
     samples[123] = at(26_002, 50_200, 900_000);
     delivers(
         &rt,
@@ -145,7 +146,7 @@ fn between_the_windows_of_a_fast_service(rt: HostRuntime) -> Result<(), Fail> {
 
 #[test]
 fn at_the_end_of_a_fast_service(rt: HostRuntime) -> Result<(), Fail> {
-    let mut samples = fast_record(true);
+    let mut samples = fast_record(Direction::Low);
     delivers(
         &rt,
         variable(plain(&samples, Service::R6)),
@@ -170,7 +171,7 @@ fn at_the_end_of_a_fast_service(rt: HostRuntime) -> Result<(), Fail> {
 // The second window of 1 ms is level at 3 * 115,000 W, times 2.
 #[test]
 fn between_the_windows_of_a_slow_service(rt: HostRuntime) -> Result<(), Fail> {
-    let mut samples = slow_record(true);
+    let mut samples = slow_record(Direction::Low);
     samples[18] = at(80_002, 50_200, 900_000);
     delivers(
         &rt,
@@ -195,7 +196,7 @@ fn between_the_windows_of_a_slow_service(rt: HostRuntime) -> Result<(), Fail> {
 
 #[test]
 fn at_the_end_of_a_slow_service(rt: HostRuntime) -> Result<(), Fail> {
-    let mut samples = slow_record(true);
+    let mut samples = slow_record(Direction::Low);
     delivers(
         &rt,
         variable(plain(&samples, Service::R60)),
@@ -220,7 +221,7 @@ fn at_the_end_of_a_slow_service(rt: HostRuntime) -> Result<(), Fail> {
 // The second window of 1 ms is level at 3 * 175,000 W, times 1.
 #[test]
 fn between_the_windows_of_a_delayed_service(rt: HostRuntime) -> Result<(), Fail> {
-    let mut samples = delayed_record(true);
+    let mut samples = delayed_record(Direction::Low);
     samples[78] = at(320_002, 50_200, 900_000);
     delivers(
         &rt,
@@ -245,7 +246,7 @@ fn between_the_windows_of_a_delayed_service(rt: HostRuntime) -> Result<(), Fail>
 
 #[test]
 fn at_the_end_of_a_delayed_service(rt: HostRuntime) -> Result<(), Fail> {
-    let mut samples = delayed_record(true);
+    let mut samples = delayed_record(Direction::Low);
     delivers(
         &rt,
         variable(plain(&samples, Service::R5)),

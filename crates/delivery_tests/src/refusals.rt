@@ -107,27 +107,14 @@ fn all_of_them_mended_one_by_one(rt: HostRuntime) -> Result<(), Fail> {
     let lower = with(NEITHER, aimed(&a, Service::L60, &unordered));
     refuses(&rt, switching(enabling(-1, lower)), 8)?;
     refuses(&rt, switching(lower), 9)?;
-    refuses(
-        &rt,
-        switching(with(NEITHER, aimed(&a, Service::R60, &unordered))),
-        10,
-    )?;
-    refuses(
-        &rt,
-        switching(with(NEITHER, aimed(&a, Service::R60, &ending))),
-        11,
-    )?;
-    refuses(
-        &rt,
-        switching(with(FAR_TRIGGER, aimed(&a, Service::R60, &ending))),
-        12,
-    )?;
-    refuses(
-        &rt,
-        switching(with(FAR_TRIGGER, aimed(&a, Service::R60, &reaching))),
-        13,
-    )?;
-    refuses(&rt, switching(aimed(&a, Service::R60, &reaching)), 14)?;
+    let raise = aimed(&a, Service::R60, &unordered);
+    refuses(&rt, switching(with(NEITHER, raise)), 10)?;
+    let ordered = aimed(&a, Service::R60, &ending);
+    refuses(&rt, switching(with(NEITHER, ordered)), 11)?;
+    refuses(&rt, switching(with(FAR_TRIGGER, ordered)), 12)?;
+    let covered = aimed(&a, Service::R60, &reaching);
+    refuses(&rt, switching(with(FAR_TRIGGER, covered)), 13)?;
+    refuses(&rt, switching(covered), 14)?;
     refuses(&rt, switching(aimed(&a, Service::R6, &reaching)), 16)?;
     let steep = Proposal {
         rate: 10_000,

@@ -3,6 +3,7 @@ use crate::asking::*;
 use crate::long::*;
 use crate::records::*;
 use crate::rules::*;
+use disturbance::direction::Direction;
 use figure::report::{Claim, Verdict};
 use recording::sample::Sample;
 use response::service::Service;
@@ -109,7 +110,7 @@ fn the_greatest_delivery_and_the_least(rt: HostRuntime) -> Result<(), Fail> {
 fn the_greatest_delivery_and_the_least_over_both_windows(rt: HostRuntime) -> Result<(), Fail> {
     delivers(
         &rt,
-        variable(plain(&greatest_record(true), Service::R5)),
+        variable(plain(&greatest_record(Direction::Low), Service::R5)),
         both(
             None,
             12_000_000_000,
@@ -120,7 +121,7 @@ fn the_greatest_delivery_and_the_least_over_both_windows(rt: HostRuntime) -> Res
     )?;
     delivers(
         &rt,
-        variable(plain(&greatest_record(false), Service::L5)),
+        variable(plain(&greatest_record(Direction::High), Service::L5)),
         both(
             None,
             -12_000_000_000,

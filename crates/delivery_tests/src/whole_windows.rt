@@ -2,6 +2,7 @@
 use crate::asking::*;
 use crate::long::*;
 use crate::records::*;
+use disturbance::direction::Direction;
 use figure::report::Verdict;
 use response::service::Service;
 use std::test::Fail;
@@ -14,12 +15,12 @@ fn fast_services(rt: HostRuntime) -> Result<(), Fail> {
     let expected = both(None, 546_667, 405_600, 405_600, Verdict::Met);
     delivers(
         &rt,
-        variable(plain(&fast_record(true)[0..1_203], Service::R6)),
+        variable(plain(&fast_record(Direction::Low)[0..1_203], Service::R6)),
         expected,
     )?;
     delivers(
         &rt,
-        variable(plain(&fast_record(false)[0..1_203], Service::L6)),
+        variable(plain(&fast_record(Direction::High)[0..1_203], Service::L6)),
         expected,
     )
 }
@@ -31,12 +32,12 @@ fn slow_services(rt: HostRuntime) -> Result<(), Fail> {
     let expected = both(None, 649_500, 330_000, 330_000, Verdict::Met);
     delivers(
         &rt,
-        variable(plain(&slow_record(true)[0..78], Service::R60)),
+        variable(plain(&slow_record(Direction::Low)[0..78], Service::R60)),
         expected,
     )?;
     delivers(
         &rt,
-        variable(plain(&slow_record(false)[0..78], Service::L60)),
+        variable(plain(&slow_record(Direction::High)[0..78], Service::L60)),
         expected,
     )
 }
@@ -48,12 +49,12 @@ fn delayed_services(rt: HostRuntime) -> Result<(), Fail> {
     let expected = both(None, 870_000, 300_000, 300_000, Verdict::Met);
     delivers(
         &rt,
-        variable(plain(&delayed_record(true)[0..228], Service::R5)),
+        variable(plain(&delayed_record(Direction::Low)[0..228], Service::R5)),
         expected,
     )?;
     delivers(
         &rt,
-        variable(plain(&delayed_record(false)[0..228], Service::L5)),
+        variable(plain(&delayed_record(Direction::High)[0..228], Service::L5)),
         expected,
     )
 }
@@ -61,12 +62,12 @@ fn delayed_services(rt: HostRuntime) -> Result<(), Fail> {
 // The last sample 1 ms before the end of the second window, or on the end of the first.
 #[test]
 fn a_record_that_ends_earlier_is_refused(rt: HostRuntime) -> Result<(), Fail> {
-    let mut fast = fast_record(true);
+    let mut fast = fast_record(Direction::Low);
     fast[1_202] = at(80_000, 49_800, 35_260);
     refuses(&rt, variable(plain(&fast[0..1_203], Service::R6)), 15)?;
     refuses(
         &rt,
-        variable(plain(&slow_record(true)[0..18], Service::R60)),
+        variable(plain(&slow_record(Direction::Low)[0..18], Service::R60)),
         15,
     )
 }

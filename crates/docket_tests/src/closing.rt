@@ -27,13 +27,7 @@ fn closes(
 
 // There is no disturbance, and the docket is handed back.
 fn stays_open(rt: &impl Abort, docket: OpenDocket, table: &[Sample]) -> Result<OpenDocket, Fail> {
-    match docket.close(table) {
-        Ok(_) => Err(Fail::new("no disturbance was expected")),
-        Err(Kept { docket, refusal }) => {
-            assert_eq!(rt; told(refusal), plain(7, 0));
-            Ok(docket)
-        }
-    }
+    handed_back(rt, docket, table, 7)
 }
 
 // A docket with two samples, at 100 and 150 ms.

@@ -1,9 +1,11 @@
 // What the examples share: readings, tables and what is expected of an answer.
-use docket::docket::OpenDocket;
+use docket::docket::{Kept, OpenDocket};
 use recording::reading::{Reading, WholeReading};
 use recording::refusal::Refusal;
 use recording::sample::Sample;
+use std::fmt::Debug;
 use std::process::Abort;
+use std::test::Fail;
 
 // What a caller's table may hold before it is used: no sample, with every field outside its limits.
 pub const BLANK: Sample = Sample {
@@ -89,6 +91,16 @@ pub(crate) fn sample(time: u32, frequency: u32, power: i32) -> Sample {
     }
 }
 
+// The table holds this entry at the place.
+pub(crate) fn holds_entry<E: PartialEq + Debug>(
+    rt: &impl Abort,
+    table: &[E],
+    place: usize,
+    entry: &E,
+) {
+    assert_eq!(rt; table.get(place), Some(entry));
+}
+
 // The table holds this sample at the place.
 pub(crate) fn holds(
     rt: &impl Abort,
@@ -98,7 +110,7 @@ pub(crate) fn holds(
     frequency: u32,
     power: i32,
 ) {
-    assert_eq!(rt; table.get(place), Some(&sample(time, frequency, power)));
+    holds_entry(rt, table, place, &sample(time, frequency, power))
 }
 
 // The table holds a sample of this time at the place, that of a steady reading.
@@ -118,4 +130,20 @@ pub(crate) fn three(rt: &impl Abort, table: &mut [Sample]) -> OpenDocket {
     counts(rt, docket.put(table, steady(200)), 2);
     counts(rt, docket.put(table, steady(300)), 3);
     docket
+}
+
+// Close refuses the table with this number, names no place, and hands the docket back.
+pub(crate) fn handed_back(
+    rt: &impl Abort,
+    docket: OpenDocket,
+    table: &[Sample],
+    number: u8,
+) -> Result<OpenDocket, Fail> {
+    match docket.close(table) {
+        Ok(_) => Err(Fail::new("a refusal was expected")),
+        Err(Kept { docket, refusal }) => {
+            assert_eq!(rt; told(refusal), plain(number, 0));
+            Ok(docket)
+        }
+    }
 }

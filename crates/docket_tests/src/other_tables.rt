@@ -1,13 +1,13 @@
 // A table that is not the docket's: it has too few places, or what is counted breaks limits or order.
 use crate::expected::*;
 use crate::records::*;
-use docket::docket::{Kept, OpenDocket};
+use docket::docket::OpenDocket;
 use recording::sample::Sample;
 use std::process::Abort;
 use std::test::Fail;
 
 // Every call on the table is refused, whatever else is wrong with it. Put tells the count, 3; amend and
-// strike tell the place given; load tells none.
+// strike tell the place given; load tells none. Close hands the docket back, by `handed_back`.
 fn is_refused_by_all(rt: &impl Abort, docket: &mut OpenDocket, other: &mut [Sample]) {
     refused(rt, docket.put(other, steady(400)), 1, 3);
     refused(rt, docket.put(other, reading(400, 46_999, 0)), 1, 3);
@@ -16,24 +16,13 @@ fn is_refused_by_all(rt: &impl Abort, docket: &mut OpenDocket, other: &mut [Samp
     refused(rt, docket.load(other, &whole(&[0])), 1, 0);
 }
 
-// Close tells no place and hands the docket back.
-fn is_kept(rt: &impl Abort, docket: OpenDocket, other: &[Sample]) -> Result<OpenDocket, Fail> {
-    match docket.close(other) {
-        Ok(_) => Err(Fail::new("a refusal was expected")),
-        Err(Kept { docket, refusal }) => {
-            assert_eq!(rt; told(refusal), plain(1, 0));
-            Ok(docket)
-        }
-    }
-}
-
 #[test]
 fn too_few_places(rt: HostRuntime) -> Result<(), Fail> {
     let mut table = [BLANK; 4];
     let mut other = [sample(100, 50_000, 0), sample(200, 50_000, 0)];
     let mut docket = three(&rt, &mut table);
     is_refused_by_all(&rt, &mut docket, &mut other);
-    let mut docket = is_kept(&rt, docket, &other)?;
+    let mut docket = handed_back(&rt, docket, &other, 1)?;
     holds_steady(&rt, &other, 1, 200);
     counts(&rt, docket.put(&mut table, steady(400)), 4);
     Ok(())
@@ -54,7 +43,7 @@ fn a_blank_table(rt: HostRuntime) -> Result<(), Fail> {
     let mut other = [BLANK; 4];
     let mut docket = three(&rt, &mut table);
     is_refused_by_all(&rt, &mut docket, &mut other);
-    let mut docket = is_kept(&rt, docket, &other)?;
+    let mut docket = handed_back(&rt, docket, &other, 1)?;
     is_blank(&rt, &other, 0);
     is_blank(&rt, &other, 3);
     counts(&rt, docket.put(&mut table, steady(400)), 4);

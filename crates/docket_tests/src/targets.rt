@@ -1,5 +1,5 @@
 // Dispatch targets: put, amend and strike on a timeline of at most 16.
-use crate::expected::{counts, refused, refused_in};
+use crate::expected::{counts, holds_entry, refused, refused_in};
 use recording::refusal::{Layer, Refusal};
 use std::process::Abort;
 use timeline::target::Target;
@@ -34,7 +34,7 @@ fn strike(table: &mut [Target], count: usize, place: usize) -> Result<usize, Ref
 }
 
 fn holds(rt: &impl Abort, table: &[Target], place: usize, time: u32, power: i32) {
-    assert_eq!(rt; table.get(place), Some(&target(time, power)));
+    holds_entry(rt, table, place, &target(time, power))
 }
 
 #[test]

@@ -1,16 +1,23 @@
-// What is expected of readings.
+// What is expected of readings and recordings.
 use recording::reading::Reading;
 use recording::sample::Sample;
+use std::fmt::Debug;
 use std::process::Abort;
 
-// The reading gives this sample.
-pub(crate) fn gives(rt: &impl Abort, reading: Reading, time: u32, frequency: u32, power: i32) {
+// What was got is this sample.
+pub(crate) fn gives<E: PartialEq + Debug + Drop>(
+    rt: &impl Abort,
+    got: Result<Sample, E>,
+    time: u32,
+    frequency: u32,
+    power: i32,
+) {
     let sample = Sample {
         time,
         frequency,
         power,
     };
-    assert_eq!(rt; reading.sample(), Ok(sample));
+    assert_eq!(rt; got, Ok(sample));
 }
 
 // The reading is refused for the field with this number.

@@ -13,7 +13,7 @@ fn reading(time: u32, frequency: f32, power: f32) -> Reading {
 
 // At 7 ms these Hz and MW are these mHz and W.
 fn rounded(rt: &impl Abort, hz: f32, mw: f32, frequency: u32, power: i32) {
-    gives(rt, reading(7, hz, mw), 7, frequency, power);
+    gives(rt, reading(7, hz, mw).sample(), 7, frequency, power);
 }
 
 // The reading is refused for this field.

@@ -1,4 +1,5 @@
 // Recordings of both makes: members, leftover bytes, and a bad member in the middle.
+use crate::expected::gives;
 use recording::fault::ReadingFault;
 use recording::interface::{Recording, sample_at};
 use recording::makes::{ByteRecording, Make};
@@ -17,22 +18,6 @@ const FLOATING: [u8; 36] = [
     0, 0, 0, 1, 0x42, 0x48, 0, 0, 0x3c, 0, 0, 0, 0, 0, 0, 2, 0x7f, 0x80, 0, 1, 0xc1, 0x48, 0, 0, 0,
     0, 0, 3, 0x42, 0x48, 0, 0, 0xc1, 0x48, 0, 0,
 ];
-
-// What was got is this sample.
-fn is_sample(
-    rt: &impl Abort,
-    got: Result<Sample, ReadingFault>,
-    time: u32,
-    frequency: u32,
-    power: i32,
-) {
-    let sample = Sample {
-        time,
-        frequency,
-        power,
-    };
-    assert_eq!(rt; got, Ok(sample));
-}
 
 // What was got is a fault that, as a refusal, has this number, place, byte position and field.
 fn is_refused(
@@ -67,8 +52,8 @@ fn an_empty_recording_has_no_member(rt: HostRuntime) {
 fn whole_records_stand_at_their_places(rt: HostRuntime) {
     let recording = ByteRecording::new(Make::Whole, &WHOLE[0..24]);
     assert_eq!(rt; recording.count(), 2);
-    is_sample(&rt, sample_at(&recording, 0), 1, 50_000, -2);
-    is_sample(&rt, sample_at(&recording, 1), 2, 50_001, 3);
+    gives(&rt, sample_at(&recording, 0), 1, 50_000, -2);
+    gives(&rt, sample_at(&recording, 1), 2, 50_001, 3);
     is_refused(&rt, sample_at(&recording, 2), 2, 2, 0, 0);
 }
 
@@ -77,7 +62,7 @@ fn leftover_bytes_are_a_last_member(rt: HostRuntime) {
     for extra in 1..12 {
         let recording = ByteRecording::new(Make::Whole, &WHOLE[0..24 + extra]);
         assert_eq!(rt; recording.count(), 3);
-        is_sample(&rt, sample_at(&recording, 1), 2, 50_001, 3);
+        gives(&rt, sample_at(&recording, 1), 2, 50_001, 3);
         is_refused(&rt, sample_at(&recording, 2), 3, 2, 24, 0);
         is_refused(&rt, sample_at(&recording, 3), 2, 3, 0, 0);
     }
@@ -94,9 +79,9 @@ fn a_cut_first_record_is_the_only_member(rt: HostRuntime) {
 fn a_bad_member_in_the_middle_is_refused_alone(rt: HostRuntime) {
     let recording = ByteRecording::new(Make::Floating, &FLOATING);
     assert_eq!(rt; recording.count(), 3);
-    is_sample(&rt, sample_at(&recording, 0), 1, 50_000, 7_813);
+    gives(&rt, sample_at(&recording, 0), 1, 50_000, 7_813);
     is_refused(&rt, sample_at(&recording, 1), 4, 1, 12, 2);
-    is_sample(&rt, sample_at(&recording, 2), 3, 50_000, -12_500_000);
+    gives(&rt, sample_at(&recording, 2), 3, 50_000, -12_500_000);
 }
 
 // The same bytes in the other make are other fields.

@@ -13,7 +13,8 @@ fn reading(time: u32, frequency: u32, power: i32) -> Reading {
 
 // The reading gives itself as a sample.
 fn kept(rt: &impl Abort, time: u32, frequency: u32, power: i32) {
-    gives(rt, reading(time, frequency, power), time, frequency, power);
+    let got = reading(time, frequency, power).sample();
+    gives(rt, got, time, frequency, power);
 }
 
 // The reading is refused for this field.

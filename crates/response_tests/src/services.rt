@@ -6,7 +6,7 @@ use response::service::{Service, Side};
 use std::process::Abort;
 use std::test::Fail;
 
-// What is answered to a text that is no service's code.
+// What is answered to a text that is no service's code. Written out, since a constant calls no function.
 const UNKNOWN: Refusal = Refusal {
     reason: Reason::UnknownCode,
     place: 0,
@@ -57,26 +57,22 @@ fn other_texts(rt: HostRuntime) {
     }
 }
 
+fn window(start: u32, end: u32, multiplier: u32) -> Window {
+    Window {
+        start,
+        end,
+        multiplier,
+    }
+}
+
 #[test]
 fn rows(rt: HostRuntime) {
-    let to_first_minute = Window {
-        start: 6_000,
-        end: 60_000,
-        multiplier: 2,
-    };
-    let to_fifth_minute = Window {
-        start: 60_000,
-        end: 300_000,
-        multiplier: 2,
-    };
+    let to_first_minute = window(6_000, 60_000, 2);
+    let to_fifth_minute = window(60_000, 300_000, 2);
     assert_eq!(rt;
         Group::Fast.row(),
         Row {
-            first: Window {
-                start: 0,
-                end: 6_000,
-                multiplier: 2,
-            },
+            first: window(0, 6_000, 2),
             second: to_first_minute,
             widest_gap: 50,
         }
@@ -93,11 +89,7 @@ fn rows(rt: HostRuntime) {
         Group::Delayed.row(),
         Row {
             first: to_fifth_minute,
-            second: Window {
-                start: 300_000,
-                end: 900_000,
-                multiplier: 1,
-            },
+            second: window(300_000, 900_000, 1),
             widest_gap: 4_000,
         }
     );

@@ -6,6 +6,7 @@ use response::setup::{Rate, Response, Trigger};
 use std::process::Abort;
 use std::test::Fail;
 
+// Written out in each test crate that asks with it, since no crate is shared by tests.
 const PLAIN: Proposal = Proposal {
     rate: 125,
     reference_dip: 500,
@@ -15,7 +16,7 @@ const PLAIN: Proposal = Proposal {
     base_end: 8_000,
 };
 
-// What is answered to a setting outside its limits.
+// What is answered to a setting outside its limits. Written out, since a constant calls no function.
 const OUTSIDE: Refusal = Refusal {
     reason: Reason::SettingOutside,
     place: 0,

@@ -26,7 +26,7 @@ impl Task for Span {
     }
 }
 
-// What the task answers to a window that is too long.
+// What the task answers to a window that is too long. Written out, since a constant calls no function.
 const TOO_LONG: Refusal = Refusal {
     reason: Reason::NoBaseSample,
     place: 0,
