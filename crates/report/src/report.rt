@@ -24,6 +24,6 @@ pub fn report(heap: Global, bytes: &[u8]) -> Result<String, AllocError>
     // as many places as a docket may hold samples
     let mut table = vec![in heap; BLANK; MOST_SAMPLES]?;
     let recording = ByteRecording::new(Make::Whole, bytes);
-    let outcome = summarize(&mut table, &recording);
+    let outcome = summarize(table.as_mut_slice(), &recording);
     outcome_text(heap, outcome)
 }
