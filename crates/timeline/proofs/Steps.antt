@@ -1,5 +1,5 @@
 -- A table looked at entry by entry, and its entries moved down one by one: each step, for whoever walks it so.
-use Rattle.std.proofs.Common.{◌≡◌, ℕ, suc, ◌+◌, ◌-◌, ◌<◌, ◌≤◌, true, false, not, ◌&&◌, Bool, leb, List, [], ◌∷◌, ◌++◌, length, get_or, take, drop, set, is_some, Some, None, Ok, Option, Result, sym, refl, ap, ◌∙◌, add-one, arith}
+use Rattle.std.proofs.Common.{◌≡◌, ℕ, suc, ◌+◌, ◌-◌, ◌<◌, ◌≤◌, true, false, not, ◌&&◌, Bool, leb, List, [], ◌∷◌, ◌++◌, length, get_or, take, drop, set, is_some, Some, None, Ok, Option, sym, refl, ap, ◌∙◌, add-one, arith}
 use Rattle.std.specs.List.{remove}
 use Rattle.std.proofs.lemmas.List.{at_drop_more, take_more, take-take, drop_more, drop-take, set-append_right, length-drop, length-take-le, get_or-append_right, get_or-drop, append_assoc, take-append-drop}
 use Rattle.std.proofs.lemmas.List.Edits.{length-remove}
