@@ -28,7 +28,8 @@ fn first_above(trace: Trace, side: Direction, time: u32) -> Option<u32>
 }
 
 // The first whole millisecond after the disturbance time at which the line's dip is below the
-// recovery dip, or none.
+// recovery dip, or none. Trace and disturbance come apart, here and for the trigger time: a closed docket
+// keeps its disturbance as plain numbers.
 pub fn recovery(trace: Trace, disturbance: Disturbance) -> Option<u32>
     ensures first { FirstOrNone (Recovered trace.entry.samples.now disturbance) result }
     ensures only { (o : Maybe ℕ) → FirstOrNone (Recovered trace.entry.samples.now disturbance) o → o ≡ result }

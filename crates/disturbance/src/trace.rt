@@ -32,7 +32,8 @@ fn are_rising(samples: &[Sample]) -> bool
     samples.is_sorted_by(|before, after| before.time < after.time)
 }
 
-// Whether samples are sound, so that `Trace { samples }` may be made of them.
+// Whether samples are sound, so that `Trace { samples }` may be made of them. A timeline asks the same of
+// any entries of a table; a trace knows no table, and its crate stands beside that of timelines.
 pub fn is_sound(samples: &[Sample]) -> bool
     ensures { Decides result (Sound samples.now) }
 {

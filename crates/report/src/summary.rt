@@ -25,7 +25,8 @@ pub struct Summary {
     pub recovery: Option<u32>,
 }
 
-// The recovery from a disturbance on the counted samples of a table that is theirs.
+// The recovery from a disturbance on the counted samples of a table that is theirs. Not by `Trace::new`: the
+// docket has checked them.
 fn counted_recovery(table: &[Sample], count: usize, disturbance: Disturbance) -> Option<u32>
     requires { Sound samples count table.now }
     ensures { FirstOrNone (Recovered (take count table.now) disturbance) result }
