@@ -1,11 +1,5 @@
-use Rattle.disturbance.proofs.Stretches.{turn, pair_rises, before_within, after_within, none_more}
+use Rattle.disturbance.proofs.Stretches.{turn, none_more}
 use Rattle.disturbance.proofs.scan.first_found.Goals as goal
-
-pub invariant_of-stretch : goal.invariant_of-stretch
-invariant_of-stretch g c =
-    let p = (turn c.args.trace.samples.now _ _ _ _ c.in-Some.is c.next.ensures.steps c.loop-pair.invariant.0).found in
-    let sound = c.args.trace.sound in
-    record { order = pair_rises sound p; before_within = before_within sound p; after_within = after_within sound p }
 
 pub returns-in-Some-find : goal.returns-in-Some-find
 returns-in-Some-find g c =
