@@ -3,7 +3,7 @@ use Rattle.std.proofs.Common.{refl, ap, arith}
 use Rattle.exact.specs.Fractions.{whole}
 use Rattle.delivery.specs.Limits.{Tame}
 use Rattle.delivery.proofs.Courses.{holds_at}
-use Rattle.delivery.proofs.Basing.{start, passed, this, sum_more, again, counts_some, mean_held, wide, some_kept}
+use Rattle.delivery.proofs.Basing.{start, passed, this, again, mean_held, some_kept}
 use Rattle.delivery.proofs.Grounds.{at_disturbance, at_each}
 use Rattle.delivery.proofs.Sounds.{usable}
 use Rattle.delivery.proofs.base.basis.Goals.{then-counts, else-counts}
@@ -21,18 +21,12 @@ base_push-sum-requires c =
       begins = (at_disturbance c.args.targets.all.now c.args.targets.rising _ _ c.requires.reached, this c.loop-sample.invariant c.loop-sample-test.true _ c.turned-point.ensures c.if-counts.ensures);
     }
 
-pub overflow_add-sum : goal.overflow_add-sum
-overflow_add-sum c = (sum_more c.loop-sample.invariant c.loop-sample-test.true _ c.turned-point.ensures c.if-counts.ensures c.base_push-sum.ensures.is c.base_push-sum.ensures.within (omega (arith, c.loop-sample.invariant.few))).fits
-
 pub loop-sample-preserved : goal.loop-sample-preserved
 loop-sample-preserved c =
     elim c.if-counts.branch [
       | then-counts w ↦ rw (w.sum-is, w.count-is) (again c.loop-sample.invariant c.loop-sample-test.true _ c.turned-point.ensures w.if-counts.ensures w.base_push-sum.ensures.is w.base_push-sum.ensures.within (omega (arith, c.loop-sample.invariant.few)))
       | else-counts w ↦ rw (w.sum-is, w.count-is) (passed c.loop-sample.invariant c.loop-sample-test.true _ c.turned-point.ensures w.if-counts.ensures)
     ]
-
-pub half_up-requires : goal.half_up-requires
-half_up-requires c = (counts_some c.loop-sample.invariant c.loop-sample-test.false (some_kept _ c.requires.some), wide c.loop-sample.invariant (omega (arith, c.loop-sample.invariant.few)))
 
 pub invariant_of-result : goal.invariant_of-result
 invariant_of-result c = let r = mean_held c.loop-sample.invariant c.loop-sample-test.false (some_kept _ c.requires.some) c.half_up.ensures in record { least = r.within.least; most = r.within.most }

@@ -5,12 +5,9 @@ use Rattle.exact.specs.Fractions.{whole}
 use Rattle.exact.specs.Rounding.{half_up}
 use Rattle.exact.proofs.Limits.{within_more}
 use Rattle.delivery.proofs.Held.{held}
-use Rattle.delivery.proofs.Reach.{start, turn, found, level}
+use Rattle.delivery.proofs.Reach.{turn, found, level}
 use Rattle.delivery.proofs.Basing.{aimed}
 use Rattle.delivery.proofs.base.trajectory.Goals as goal
-
-pub loop-target-init : goal.loop-target-init
-loop-target-init c = start (λ g. g.time) _ c.args.targets.all.now c.args.time c.requires
 
 pub straight_half_up-requires : goal.straight_half_up-requires
 straight_half_up-requires c = let i = c.loop-target.invariant in

@@ -1,5 +1,5 @@
 -- The third defect applies, or the fifth, or none does: the earlier ones have been passed.
-use Rattle.std.proofs.Common.{◌≡◌, ℕ, false, List, [], ◌∷◌, take, ℤ, Decides, Option, Result, Some, IfOk, Ok, Err, refl, ap, ◌∙◌, subst, inl, inr, w64, SFits, to_z, of_z, rules}
+use Rattle.std.proofs.Common.{◌≡◌, ℕ, false, List, [], ◌∷◌, take, ℤ, Decides, Option, Result, Some, IfOk, Ok, Err, refl, ap, subst, inl, inr, w64, SFits, to_z, of_z, rules}
 use Rattle.std.specs.Result.{IsErrAnd, result_err}
 use Rattle.std.proofs.lemmas.Int.{to_z-of_z}
 use Rattle.std.proofs.lemmas.Bool.Decides.{not_from_Decides}
@@ -11,7 +11,6 @@ use Rattle.timeline.specs.Orders.{Sound}
 use Rattle.timeline.specs.Targets.{targets}
 use Rattle.figure.specs.Defects.{BadAmount, WrongSide, BadTargets, MissedByTargets, defect, early_defects}
 use Rattle.delivery.specs.declared.footing.Footing.{Footing}
-use Rattle.delivery.specs.declared.targets.Targets.{Targets}
 use Rattle.delivery.specs.declared.terms.Terms.{Terms}
 use Rattle.delivery.specs.Footings.{points_on}
 use Rattle.delivery.proofs.defects.early_defect.Goals as goal
@@ -34,15 +33,6 @@ module _ (g : Footing) (table : List Target) (count : ℕ) (terms : Terms) (fits
 
   four : Sound targets count table → Decides false (points_on g ≡ []) → (gs : List Target) → gs ≡ take count table → (r : Option Reason) → FirstFault (defect (MissedByTargets gs g.disturbance.time (points_on g)) OutsideTargets ∷ []) r → found r
   four sound base gs e r h = two r (inr ((λ bad. bad sound), inr (not_from_Decides false base refl, subst (λ (hs : List Target). FirstFault (defect (MissedByTargets hs g.disturbance.time (points_on g)) OutsideTargets ∷ []) r) e h)))
-
-pub returns-in_err-targets : goal.returns-in_err-targets
-returns-in_err-targets c =
-    let z : SFits w64 c.args.terms.enabled = search rules in
-    let e = err_is _ _ c.from_residual.ensures.1 ∙ ap (λ (w : Reason). Some w) c.in_err-targets.ensures.1 in
-    record {
-      defect = two c.args.footing c.args.table.now c.args.count c.args.terms z c.if-is_bad_amount.ensures c.if-is_wrong_side.ensures _ (inl (c.in_err-targets.ensures.0, e));
-      counted = none_found {T = Targets} c.from_residual.result (λ gs. gs.all.now ≡ take c.args.count c.args.table.now) (λ e. e ≡ c.in_err-targets.field-0.0) c.from_residual.ensures.1;
-    }
 
 pub returns-then-is_missed : goal.returns-then-is_missed
 returns-then-is_missed c =

@@ -3,8 +3,8 @@ use Rattle.std.proofs.Common.{arith}
 use Rattle.delivery.specs.Limits.{Tame}
 use Rattle.delivery.proofs.Courses.{holds_at}
 use Rattle.delivery.proofs.Sounds.{usable}
-use Rattle.delivery.proofs.Walk.{not_yet, ahead, upto}
-use Rattle.delivery.proofs.Turning.{start, here, on, spans, spans_end, first, last, sum_more, again, sum_last, end_upto, sum_end}
+use Rattle.delivery.proofs.Walk.{not_yet, ahead}
+use Rattle.delivery.proofs.Turning.{start, here, on, spans, spans_end, first, last, sum_more, again, sum_last, sum_end}
 use Rattle.delivery.proofs.windows.area.Goals as goal
 
 pub loop-sample-init : goal.loop-sample-init
@@ -22,9 +22,6 @@ straight_half_up-v0-requires g c = let h = here c.loop-sample.invariant c.loop-s
 -- ---- the window ends by this point
 pub straight_half_up-last-requires : goal.straight_half_up-last-requires
 straight_half_up-last-requires g c = let h = here c.loop-sample.invariant c.loop-sample-test.true _ c.turned-point.ensures c.compensated-v.ensures.is c.compensated-v.ensures.within in spans_end h c.if-point-window.false c.max-t0.ensures c.if-window-point.true
-
-pub overflow_sub-window : goal.overflow_sub-window
-overflow_sub-window g c = let h = here c.loop-sample.invariant c.loop-sample-test.true _ c.turned-point.ensures c.compensated-v.ensures.is c.compensated-v.ensures.within in upto h c.if-point-window.false c.max-t0.ensures
 
 pub strip-requires : goal.strip-requires
 strip-requires g c = let h = here c.loop-sample.invariant c.loop-sample-test.true _ c.turned-point.ensures c.compensated-v.ensures.is c.compensated-v.ensures.within in let y = c.straight_half_up-v0.ensures in let x = c.straight_half_up-last.ensures in
@@ -54,8 +51,6 @@ loop-sample-preserved g c = let h = here c.loop-sample.invariant c.loop-sample-t
     on c.loop-sample.invariant (again h c.if-point-window.false c.max-t0.ensures y.is y.within c.loop-sample.invariant.small c.if-window-point.false c.strip-sum.ensures)
 
 -- ---- after the last point
-pub overflow_sub-window-2 : goal.overflow_sub-window-2
-overflow_sub-window-2 g c = end_upto c.loop-sample.invariant c.loop-sample-test.false c.max.ensures
 
 pub strip-requires-2 : goal.strip-requires-2
 strip-requires-2 g c = let w = c.loop-sample.invariant.walked.onto.within in (w, w)
