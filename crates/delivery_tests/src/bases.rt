@@ -60,3 +60,22 @@ fn a_base_window_before_time_0_holds_no_sample(rt: HostRuntime) -> Result<(), Fa
     let flat = [at(0, 50_000, 0), at(100, 49_850, 0), at(150, 49_849, 0)];
     refuses(&rt, variable(plain(&flat, Service::R6)), 11)
 }
+
+// The disturbance is at 51: the window begins at -9, or long before. Base (0 + 300 + 0)/3 = 100 W:
+// (49 * 410 + 26 * 900)/75 = 579.87, times 2.
+#[test]
+fn a_base_window_may_begin_before_time_0(rt: HostRuntime) -> Result<(), Fail> {
+    let samples = [
+        at(0, 50_000, 0),
+        at(10, 50_000, 300),
+        at(50, 49_850, 0),
+        at(100, 49_750, 1_000),
+        at(150, 50_250, 1_000),
+    ];
+    delivers(&rt, variable(based(&samples, 60, 0)), met(51, 126, 1_160))?;
+    delivers(
+        &rt,
+        variable(based(&samples, 60_000, 0)),
+        met(51, 126, 1_160),
+    )
+}

@@ -89,3 +89,60 @@ fn falling_targets_raise_the_base(rt: HostRuntime) -> Result<(), Fail> {
         met(20_001, 20_076, 1_360),
     )
 }
+
+// Record B turned: 7 + 50 and 700 W, 378.5 in the mean; (39 * 471.5 + 26 * 621.5)/65 = 531.5, times 2. From
+// 700 W alone (39 * 150 + 26 * 300)/65 = 210, times 2.
+#[test]
+fn targets_at_the_disturbance_time_and_at_base_samples(rt: HostRuntime) -> Result<(), Fail> {
+    let samples = [
+        at(19_000, 49_850, -7),
+        at(19_301, 50_151, -700),
+        at(19_340, 50_250, -1_000),
+        at(19_390, 49_750, -1_000),
+    ];
+    let pair = [target(19_000, 0), target(19_301, -50)];
+    let long = Proposal {
+        base_begin: 301,
+        base_end: 0,
+        ..PLAIN
+    };
+    let brief = Proposal {
+        base_begin: 1,
+        base_end: 0,
+        ..PLAIN
+    };
+    delivers(
+        &rt,
+        variable(with(long, aimed(&samples, Service::L6, &pair))),
+        met(19_301, 19_366, 1_063),
+    )?;
+    let one = aimed(&samples, Service::L6, &pair[1..2]);
+    delivers(&rt, variable(with(brief, one)), met(19_301, 19_366, 420))?;
+    refuses(&rt, variable(with(long, one)), 12)
+}
+
+// 50 ms level at 1,000 W: (24,990 + 50,000)/99 = 757.47, times 2.
+#[test]
+fn a_sample_on_the_recovery_does_not_count(rt: HostRuntime) -> Result<(), Fail> {
+    let samples = risen(at(20_100, 49_999, -3_000));
+    delivers(
+        &rt,
+        variable(plain(&samples, Service::L6)),
+        met(20_001, 20_100, 1_515),
+    )
+}
+
+// The greatest dip is 250; it ends at 20,100 without recovery; a gap of 150 ms.
+#[test]
+fn what_is_refused(rt: HostRuntime) -> Result<(), Fail> {
+    let samples = risen(at(20_100, 49_750, -1_000));
+    let far = Proposal {
+        switch_dip: 251,
+        ..PLAIN
+    };
+    refuses(&rt, switching(with(far, plain(&samples, Service::L6))), 13)?;
+    let unrecovered = risen(at(20_100, 50_250, -1_000));
+    refuses(&rt, variable(plain(&unrecovered, Service::L6)), 15)?;
+    let wide = risen(at(20_200, 49_750, -1_000));
+    refuses(&rt, variable(plain(&wide, Service::L6)), 16)
+}

@@ -267,3 +267,19 @@ fn at_the_end_of_a_delayed_service(rt: HostRuntime) -> Result<(), Fail> {
         both(Some(920_000), 870_000, 300_010, 300_010, Verdict::Met),
     )
 }
+
+// The disturbance at 20,001 and the recovery at 20,002 are both on samples: 1 ms level at 1,000 W, times 2.
+#[test]
+fn recovery_at_the_millisecond_after_the_disturbance(rt: HostRuntime) -> Result<(), Fail> {
+    let samples = [
+        at(5_000, 50_000, 0),
+        at(20_000, 49_850, 0),
+        at(20_001, 49_849, 1_000),
+        at(20_002, 50_001, 9_000),
+    ];
+    delivers(
+        &rt,
+        variable(plain(&samples, Service::R6)),
+        met(20_001, 20_002, 2_000),
+    )
+}

@@ -196,3 +196,15 @@ fn the_windows_one_after_another(rt: HostRuntime) -> Result<(), Fail> {
         15,
     )
 }
+
+#[test]
+fn every_service_of_the_other_direction(rt: HostRuntime) -> Result<(), Fail> {
+    let low = record_a();
+    refuses(&rt, variable(plain(&low, Service::L6)), 9)?;
+    refuses(&rt, variable(plain(&low, Service::L60)), 9)?;
+    refuses(&rt, variable(plain(&low, Service::L5)), 9)?;
+    let high = risen(at(20_100, 49_750, -1_000));
+    refuses(&rt, variable(plain(&high, Service::R6)), 9)?;
+    refuses(&rt, variable(plain(&high, Service::R60)), 9)?;
+    refuses(&rt, variable(plain(&high, Service::R5)), 9)
+}

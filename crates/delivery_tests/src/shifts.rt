@@ -1,10 +1,14 @@
 // The shift of a rule with a trigger: the windows begin later or earlier, down to before the disturbance.
 use crate::asking::*;
+use crate::long::*;
 use crate::records::*;
 use crate::rules::*;
+use disturbance::direction::Direction;
+use figure::report::Verdict;
 use recording::sample::Sample;
 use response::service::Service;
 use response::settings::Proposal;
+use response::setup::Trigger;
 use std::test::Fail;
 
 // Plain settings with another rate.
@@ -232,6 +236,18 @@ fn samples_are_weighed_from_the_disturbance_time_on(rt: HostRuntime) -> Result<(
     )
 }
 
+// The rule's trigger is 250, the switch dip of the settings 200: from 20,040 on
+// (10 * 900 + 26 * 1,000)/36 = 972.22, times 2, at weight 2.
+#[test]
+fn the_trigger_is_the_rules_own(rt: HostRuntime) -> Result<(), Fail> {
+    let rule = double(Some(Trigger { dip: 250 }));
+    delivers(
+        &rt,
+        ruled(rated(10_000, &record_a()), &rule),
+        met(20_001, 20_076, 3_889),
+    )
+}
+
 // At 20,050 the offset is 49, the weight 1.49: from 596 W at 20,020 (30 * 1,043 + 26 * 1,490)/56 = 1,250.54,
 // times 2.
 #[test]
@@ -241,5 +257,70 @@ fn the_offset_is_counted_from_the_disturbance_time(rt: HostRuntime) -> Result<()
         &rt,
         ruled(rated(10_000, &record_a()), &rule),
         met(20_001, 20_076, 2_501),
+    )
+}
+
+// The dip is 200 at the disturbance time, so the shift is -1. The first window from 20,000 on:
+// (50,000 + 5,999 * 100,000)/6,000 = 99,991.67, times 2. The second to 80,000, where the power is 35,201.2 W:
+// (100,000 + 53,999 * 67,600.6)/54,000 = 67,601.2, times 2.
+#[test]
+fn both_windows_begin_earlier(rt: HostRuntime) -> Result<(), Fail> {
+    let settings = Proposal {
+        rate: 10_000,
+        switch_dip: 160,
+        ..PLAIN
+    };
+    delivers(
+        &rt,
+        switching(with(
+            settings,
+            plain(&fast_record(Direction::Low)[0..1_203], Service::R6),
+        )),
+        both(None, 199_983, 135_202, 135_202, Verdict::Met),
+    )
+}
+
+// The dip is 300 on the sample at 24,001 alone: 4,000 - 15 ms. The first window from 29,986 on, at
+// 102,496.25 W: (50,015 * 108,748.125 + 3,985 * 114,003.75)/54,000 = 109,135.97, times 2. The second from
+// 83,986 on, at 113,007.5 W, to the recovery: (236,015 * 54,003.75 - 5,000)/236,016 = 54,003.5, times 2.
+#[test]
+fn both_windows_begin_later(rt: HostRuntime) -> Result<(), Fail> {
+    let settings = Proposal {
+        rate: 10_000,
+        switch_dip: 300,
+        ..PLAIN
+    };
+    let mut samples = slow_record(Direction::Low);
+    samples[3] = at(24_001, 49_700, 101_000);
+    delivers(
+        &rt,
+        switching(with(settings, plain(&samples, Service::R60))),
+        both(Some(320_002), 218_272, 108_007, 108_007, Verdict::Met),
+    )
+}
+
+// A dip of 2,000 at 20,050: 49 - 1,850,000 ms, so that every window lies long before time 0.
+#[test]
+fn at_the_greatest_trigger_no_window_is_in_the_record(rt: HostRuntime) -> Result<(), Fail> {
+    let samples = [
+        at(5_000, 50_000, 0),
+        at(20_000, 49_850, 0),
+        at(20_050, 48_000, 1_000),
+        at(20_100, 50_250, 1_000),
+    ];
+    let farthest = Proposal {
+        rate: 1,
+        switch_dip: 2_000,
+        ..PLAIN
+    };
+    refuses(
+        &rt,
+        switching(with(farthest, plain(&samples, Service::R6))),
+        15,
+    )?;
+    refuses(
+        &rt,
+        switching(with(farthest, plain(&samples, Service::R5))),
+        15,
     )
 }

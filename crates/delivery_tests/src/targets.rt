@@ -177,3 +177,47 @@ fn the_widest_targets_and_a_place_beyond_the_count(rt: HostRuntime) -> Result<()
         short(20_001, 20_076, -50_001_974),
     )
 }
+
+// What stands in the table is not looked at.
+#[test]
+fn a_count_of_0_is_no_target(rt: HostRuntime) -> Result<(), Fail> {
+    let a = record_a();
+    delivers(
+        &rt,
+        variable(Case {
+            count: 0,
+            ..aimed(&a, Service::R6, &[target(100, 0), target(100, 300)])
+        }),
+        met(20_001, 20_076, 1_360),
+    )
+}
+
+// More than put allows, but in order. Base 300 W, as with the first and the last alone.
+#[test]
+fn seventeen_targets_in_order_are_followed(rt: HostRuntime) -> Result<(), Fail> {
+    let a = record_a();
+    let targets = [
+        target(5_000, 0),
+        target(5_001, 0),
+        target(5_002, 0),
+        target(5_003, 0),
+        target(5_004, 0),
+        target(5_005, 0),
+        target(5_006, 0),
+        target(5_007, 0),
+        target(5_008, 0),
+        target(5_009, 0),
+        target(5_010, 0),
+        target(5_011, 0),
+        target(5_012, 0),
+        target(5_013, 0),
+        target(5_014, 0),
+        target(5_015, 0),
+        target(20_001, 300),
+    ];
+    delivers(
+        &rt,
+        variable(aimed(&a, Service::R6, &targets)),
+        met(20_001, 20_076, 760),
+    )
+}

@@ -149,3 +149,40 @@ fn great_deliveries_between_samples(rt: HostRuntime) -> Result<(), Fail> {
         met(20_001, 20_076, 8_158_400_000),
     )
 }
+
+// 273,333.33 and 202,800 W in the mean, times 2: it is the second value that is delivered.
+#[test]
+fn the_lesser_of_two_values_is_met_level_or_short(rt: HostRuntime) -> Result<(), Fail> {
+    let samples = fast_record(Direction::Low);
+    let whole = &samples[0..1_203];
+    delivers(
+        &rt,
+        variable(enabled(whole, Service::R6, 405_599)),
+        both(None, 546_667, 405_600, 405_600, Verdict::Met),
+    )?;
+    delivers(
+        &rt,
+        variable(enabled(whole, Service::R6, 405_600)),
+        both(None, 546_667, 405_600, 405_600, Verdict::Level),
+    )?;
+    delivers(
+        &rt,
+        variable(enabled(whole, Service::R6, 405_601)),
+        both(None, 546_667, 405_600, 405_600, Verdict::Short),
+    )
+}
+
+// 2,000,000,000 W at just less than weight 3 are 5,999,999,333.33 W, times 2.
+#[test]
+fn the_greatest_delivery_at_the_finest_weight(rt: HostRuntime) -> Result<(), Fail> {
+    let up = turning(-1_000_000_000, 1_000_000_000);
+    let finest = always(Weight {
+        n: 8_999_999,
+        d: 3_000_000,
+    });
+    delivers(
+        &rt,
+        ruled(enabled(&up, Service::R60, 0), &finest),
+        met(20_001, 26_501, 11_999_998_667),
+    )
+}
