@@ -21,7 +21,7 @@ use Rattle.disturbance.specs.Disturbance.{disturbance_of}
 use Rattle.docket.specs.Reasons.{readings, field_outside, samples_in, sample_list, replaced, amended, put_reasons, amend_reasons}
 use Rattle.docket.specs.Loading.{member_reasons, member_samples, all_samples, time_in, located, or_else, load_fault}
 use Rattle.docket.specs.Accepted.{Accepted, opened, closed, kept, put_record, amend_record, strike_record, load_record, record_fault, marked}
-use Rattle.docket.specs.History.{History, new, put, load, amend, strike, close, reopen}
+use Rattle.docket.specs.History.{History, new, put, load, amend, strike, close, deliver, reopen}
 use Rattle.std.proofs.lemmas.List.Edits.{length-remove}
 use Rattle.std.proofs.lemmas.Bool.{leb-false}
 use Rattle.docket.proofs.Pushed.{time_pushed}
@@ -131,4 +131,5 @@ history_fit places a (load xs ms h) = load_fit places xs ms (history_fit places 
 history_fit places a (amend xs i r h) = amend_fit places xs i r (history_fit places (opened xs) h)
 history_fit places a (strike xs i h) = strike_fit places xs i (history_fit places (opened xs) h)
 history_fit places a (close xs h) = close_fit places xs (disturbance_of xs) (history_fit places (opened xs) h)
+history_fit places a (deliver xs q h) = history_fit places (closed xs) h
 history_fit places a (reopen xs h) = history_fit places (closed xs) h

@@ -5,3 +5,4 @@ pub mod Loads
 pub mod Writing
 pub mod Histories
 pub mod Leading
+pub mod Delivered

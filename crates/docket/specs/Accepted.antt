@@ -22,6 +22,11 @@ pub data Accepted : Type 0 where
   opened : List Sample → Accepted
   closed : List Sample → Accepted
 
+-- the accepted samples, whatever the mark
+abbrev pub samples_of : Accepted → List Sample
+samples_of (opened xs) = xs
+samples_of (closed xs) = xs
+
 -- the new samples, unless the call is refused
 abbrev pub kept : {F : Type 0} → Option F → List Sample → List Sample → List Sample
 kept None new old = new

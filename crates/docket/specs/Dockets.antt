@@ -10,7 +10,7 @@ use Rattle.recording.specs.Refusals.{refusal}
 use Rattle.timeline.specs.Samples.{samples}
 use Rattle.timeline.specs.Orders.{is_sound}
 use Rattle.timeline.specs.Faults.{other_table}
-use Rattle.timeline.specs.Timelines.{Outcome, written}
+use Rattle.timeline.specs.Timelines.{Outcome, over, written}
 use Rattle.disturbance.specs.declared.disturbance.Disturbance.{Disturbance}
 use Rattle.disturbance.specs.Disturbance.{disturbance_of}
 use Rattle.docket.specs.declared.docket.OpenDocket.{OpenDocket}
@@ -38,9 +38,9 @@ abbrev pub LeadsEither : {places : ℕ} {a : Accepted} → History places a → 
 LeadsEither h (Ok docket) table = LeadsClosed h docket table
 LeadsEither h (Err k) table = LeadsOpen h k.docket table
 
--- a call on an open docket and a table: whatever history leads to them, the history with the call leads to them as they are left, and the answer is the accepted record's
+-- a call on an open docket and a table: whatever history leads to them, the history with the call leads to them as they are left, the table holds what it held with the accepted samples laid over its front, and the answer is the accepted record's
 abbrev pub Extends : (before : OpenDocket) (table : List Sample) (after : OpenDocket) (left : List Sample) (r : Result ℕ Refusal) {then : List Sample → List Sample} → ((xs : List Sample) → History (length table) (opened xs) → History (length table) (opened (then xs))) → (List Sample → Result ℕ Refusal) → Type 0
-Extends before table after left r call answer = (xs : List Sample) (h : History (length table) (opened xs)) → LeadsOpen h before table → LeadsOpen (call xs h) after left × (r ≡ answer xs)
+Extends before table after left r {then} call answer = (xs : List Sample) (h : History (length table) (opened xs)) → LeadsOpen h before table → LeadsOpen (call xs h) after left × (left ≡ over (then xs) table) × (r ≡ answer xs)
 
 -- ---- what a call answers and leaves, with any table
 -- the count after an answer

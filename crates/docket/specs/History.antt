@@ -4,6 +4,7 @@ use Rattle.std.specs.Prelude.{ℕ, List, []}
 use Rattle.recording.specs.declared.sample.Sample.{Sample}
 use Rattle.recording.specs.declared.reading.Reading.{Reading}
 use Rattle.recording.specs.declared.interface.Member.{Member}
+use Rattle.docket.specs.Requests.{Sought}
 use Rattle.docket.specs.Accepted.{Accepted, opened, closed, put_record, amend_record, strike_record, load_record, close_record}
 
 pub data History (places : ℕ) : Accepted → Type 0 where
@@ -13,4 +14,5 @@ pub data History (places : ℕ) : Accepted → Type 0 where
   amend : (xs : List Sample) (i : ℕ) (r : Reading) → History places (opened xs) → History places (opened (amend_record xs i r))
   strike : (xs : List Sample) (i : ℕ) → History places (opened xs) → History places (opened (strike_record xs i))
   close : (xs : List Sample) → History places (opened xs) → History places (close_record xs)
+  deliver : (xs : List Sample) (q : Sought) → History places (closed xs) → History places (closed xs)
   reopen : (xs : List Sample) → History places (closed xs) → History places (opened xs)

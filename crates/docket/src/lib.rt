@@ -2,6 +2,8 @@
 #![tactic(auto)]
 
 mod closing;
+mod delivering;
 pub mod docket;
 mod loading;
 mod putting;
+pub mod request;

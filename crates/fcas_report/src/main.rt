@@ -1,4 +1,4 @@
-// What a docket tells of the recording on standard input.
+// What is delivered of the recording on standard input.
 #![tactic(auto)]
 
 use report::run::run;

@@ -1,4 +1,4 @@
-// What a docket tells of the recording on standard input. The gate runs a program on one input, so this
+// What is delivered of the recording on standard input. The gate runs a program on one input, so this
 // one is apart: its recording is one with a field outside its limits.
 #![tactic(auto)]
 

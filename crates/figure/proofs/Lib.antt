@@ -2,6 +2,7 @@ pub mod Rising
 pub mod Bound
 pub mod Standing
 pub mod Once
+pub mod Barred
 pub mod Faithful
 pub mod Meanings
 pub mod Shifted

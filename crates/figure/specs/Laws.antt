@@ -19,6 +19,7 @@ use Rattle.figure.specs.Points.{Rises}
 use Rattle.figure.specs.Steps.{to_half_up, is_base, value_of}
 use Rattle.figure.specs.Windows.{ramp_start, ramp_time, placed, Empty}
 use Rattle.figure.specs.Asked.{Asked}
+use Rattle.figure.specs.Barred.{RefusedExactly}
 use Rattle.figure.specs.Reports.{Delivers}
 use Rattle.figure.specs.Exactness.{ExactDelivery, Faithful}
 
@@ -55,6 +56,10 @@ OneAnswer = (a : Asked) (r s : Result Report Refusal) → Delivers a r → Deliv
 abbrev pub OneExactDelivery : Type 0
 OneExactDelivery = (a : Asked) (x y : Fraction) → ExactDelivery a x → ExactDelivery a y → x ≡ y
 
+-- a delivery is refused exactly where a defect applies, and for such a defect
+abbrev pub RefusedByDefects : Type 0
+RefusedByDefects = (a : Asked) (r : Result Report Refusal) → Delivers a r → RefusedExactly a r
+
 -- for any sound record and any row of windows that start before they end, are at most 900,000 ms long and count once or twice: the delivery is less than one watt from the exact delivery, and the verdict is fair
 abbrev pub ReportsAreFaithful : Type 0
 ReportsAreFaithful = (a : Asked) (report : Report) → Sound a.samples → SoundRow a.row → Delivers a (Ok report) → Faithful a report
@@ -80,5 +85,6 @@ pub record FigureLaws : Type 0 where
   pub level_value : LevelValue
   pub one_answer : OneAnswer
   pub one_exact_delivery : OneExactDelivery
+  pub refused_by_defects : RefusedByDefects
   pub reports_are_faithful : ReportsAreFaithful
   pub power_after_recovery : PowerAfterRecovery

@@ -3,7 +3,9 @@ pub mod Steps
 pub mod Windows
 pub mod Asked
 pub mod Defects
+pub mod Verdicts
 pub mod Reports
+pub mod Barred
 pub mod Exactness
 pub mod Laws
 pub mod Worked

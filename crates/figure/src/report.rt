@@ -1,5 +1,9 @@
 // What is answered to a delivery that has no defect.
+ghost use Rattle.std.specs.Prelude.{Some};
+ghost use Rattle.figure.specs.Verdicts.{word};
+
 use response::service::Service;
+use std::fmt;
 
 // How a delivery stands to the enabled amount: above it, equal to it, or below it.
 #[derive(Clone, Copy, Debug, PartialEq, Eq)]
@@ -7,6 +11,19 @@ pub enum Verdict {
     Met,
     Level,
     Short,
+}
+
+// A verdict is shown as a word.
+impl fmt::Display for Verdict {
+    ghost output = { λ verdict. Some (word verdict) };
+
+    fn fmt<W: fmt::Write>(&self, f: &mut fmt::Formatter<W>) -> fmt::Result {
+        f.write_str(match self {
+            Verdict::Met => "met",
+            Verdict::Level => "level",
+            Verdict::Short => "short",
+        })
+    }
 }
 
 // Times in ms, values in W. There is no second value where the second window is empty.

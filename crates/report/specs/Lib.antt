@@ -1,3 +1,3 @@
-pub mod Summaries
+pub mod Settlements
 pub mod Texts
 pub mod Reports

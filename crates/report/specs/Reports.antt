@@ -1,21 +1,37 @@
--- The report of a recording in whole units.
-use Rattle.std.specs.Prelude.{◌≡◌, ℕ, List, Result}
+-- The report of a recording in whole units, under the plain settings and the variable rule.
+use Rattle.std.specs.Prelude.{◌≡◌, ℕ, List, None, Result}
 use Rattle.recording.specs.declared.refusal.Refusal.{Refusal}
 use Rattle.recording.specs.declared.interface.Member.{Member}
 use Rattle.recording.specs.declared.makes.Make.TheVariants.{Whole}
 use Rattle.recording.specs.Makes.{Recorded}
-use Rattle.report.specs.declared.summary.Summary.{Summary}
-use Rattle.report.specs.Summaries.{Summarizes}
+use Rattle.response.specs.declared.service.Service.{Service}
+use Rattle.response.specs.declared.settings.Settings.{Settings}
+use Rattle.response.specs.declared.variable.Variable.{Variable}
+use Rattle.response.specs.Settings.{numbers_of, plain_numbers}
+use Rattle.response.specs.VariableRule.{factor_of}
+use Rattle.docket.specs.Requests.{Sought}
+use Rattle.report.specs.declared.settlement.Delivery.{Delivery}
+use Rattle.report.specs.Settlements.{bare, Settles}
 use Rattle.report.specs.Texts.{outcome_text}
 
 -- the places of the table, as many as a docket may hold samples
 abbrev pub places : ℕ
 places = 4096
 
--- the text of what a docket tells of the members that the bytes make
+-- the variable rule that settings and their own rate make
+abbrev pub variable_of : Settings → Variable
+variable_of s = record { response = s.response; rate = s.response.rate }
+
+-- what is sought under settings and that rule
+abbrev pub variably : Settings → Service → Sought
+variably s = bare s None (factor_of (variable_of s))
+
+-- the text of what a docket delivers of the members that the bytes make, under the plain settings, with no targets and nothing enabled
 pub record Reports (bytes text : List ℕ) : Type 0 where
   pub members : List Member
-  pub outcome : Result Summary Refusal
+  pub settings : Settings
+  pub outcome : Result (List Delivery) Refusal
   pub recorded : Recorded Whole bytes members
-  pub summarized : Summarizes places members outcome
+  pub plain : numbers_of settings ≡ plain_numbers
+  pub settled : Settles places members (variably settings) outcome
   pub is : text ≡ outcome_text outcome

@@ -1,7 +1,7 @@
-// What the programs print of a recording: how it stands on a docket of its own.
+// What the programs print of a recording: what is delivered for every service.
 #![tactic(auto)]
 
 pub mod report;
 pub mod run;
-pub mod summary;
+pub mod settlement;
 pub mod text;

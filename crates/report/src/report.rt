@@ -1,11 +1,13 @@
 // The report of a recording in whole units, from its bytes to its text.
 ghost use Rattle.std.specs.Prelude.{◌≡◌, ℕ, List, IfOk, string_bytes};
-ghost use Rattle.report.specs.Reports.{Reports};
+ghost use Rattle.report.specs.Reports.{variable_of, Reports};
 
-use crate::summary::summarize;
+use crate::settlement::settle;
 use crate::text::outcome_text;
 use recording::makes::{ByteRecording, Make};
 use recording::sample::Sample;
+use response::settings::Settings;
+use response::variable::Variable;
 use std::alloc::{AllocError, Global};
 use timeline::sample::MOST_SAMPLES;
 
@@ -16,6 +18,17 @@ const BLANK: Sample = Sample {
     power: 0,
 };
 
+// The variable rule of settings with their own rate.
+fn variable_rule(settings: &Settings) -> Variable
+    ensures { result ≡ variable_of settings.now }
+{
+    let response = settings.response;
+    Variable {
+        response,
+        rate: response.rate,
+    }
+}
+
 // The text of the report, the only one for these bytes.
 pub fn report(heap: Global, bytes: &[u8]) -> Result<String, AllocError>
     ensures text { IfOk result (λ s. Reports bytes.now (string_bytes s)) }
@@ -24,6 +37,8 @@ pub fn report(heap: Global, bytes: &[u8]) -> Result<String, AllocError>
     // as many places as a docket may hold samples
     let mut table = vec![in heap; BLANK; MOST_SAMPLES]?;
     let recording = ByteRecording::new(Make::Whole, bytes);
-    let outcome = summarize(table.as_mut_slice(), &recording);
+    let settings = Settings::plain();
+    let rule = variable_rule(&settings);
+    let outcome = settle(table.as_mut_slice(), &recording, &settings, &rule);
     outcome_text(heap, outcome)
 }

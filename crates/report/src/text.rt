@@ -1,49 +1,46 @@
-// The text of a summary, or of the refusal in its place.
-ghost use Rattle.std.specs.Prelude.{◌≡◌, Some, IfOk, string_bytes};
-ghost use Rattle.report.specs.Texts.{recovery_text, summary_text, outcome_text};
+// The text of a settlement, or of the refusal in its place.
+ghost use Rattle.std.specs.Prelude.{◌≡◌, ◌++◌, Some, IfOk, codes, string_bytes};
+ghost use Rattle.report.specs.Texts.{delivery_text, deliveries_text, outcome_text};
 
-use crate::summary::Summary;
-use disturbance::disturbance::Disturbance;
+use crate::settlement::{Delivery, Settlement};
 use recording::refusal::Refusal;
 use std::alloc::{AllocError, Global};
 use std::fmt;
 
-// A recovery as it is told: its time, or that there is none.
-#[derive(Clone, Copy)]
-struct Told(Option<u32>);
-
-impl fmt::Display for Told {
-    ghost output = { λ told. Some (recovery_text told.0) };
+// A line: the service, and the watts with the verdict or the refusal.
+impl fmt::Display for Delivery {
+    ghost output = { λ d. Some (delivery_text d) };
 
     fn fmt<W: fmt::Write>(&self, f: &mut fmt::Formatter<W>) -> fmt::Result {
-        match self.0 {
-            Some(time) => write!(f, "{time}"),
-            None => f.write_str("none"),
+        let service = self.service;
+        match self.answer {
+            Ok(report) => {
+                let watts = report.delivery;
+                let verdict = report.verdict;
+                writeln!(f, "{service} {watts} {verdict}")
+            }
+            Err(refusal) => writeln!(f, "{service} {refusal}"),
         }
     }
 }
 
-// The count of samples, the disturbance and the recovery, a line each.
-impl fmt::Display for Summary {
-    ghost output = { λ s. Some (summary_text s) };
-
-    fn fmt<W: fmt::Write>(&self, f: &mut fmt::Formatter<W>) -> fmt::Result {
-        let count = self.count;
-        let Disturbance { time, direction } = self.disturbance;
-        let recovery = Told(self.recovery);
-        writeln!(
-            f,
-            "samples {count}\ndisturbance {time} {direction}\nrecovery {recovery}"
-        )
-    }
+// The text of a settlement: a header, and a line for each service.
+fn settlement_text(heap: Global, settlement: Settlement) -> Result<String, AllocError>
+    ensures { IfOk result (λ s. string_bytes s ≡ codes "service watts verdict\n" ++ deliveries_text settlement) }
+{
+    let [r6, l6, r60, l60, r5, l5] = settlement;
+    format!(in heap; "service watts verdict\n{r6}{l6}{r60}{l60}{r5}{l5}")
 }
 
-// The text of a summary, or of the refusal alone.
-pub fn outcome_text(heap: Global, outcome: Result<Summary, Refusal>) -> Result<String, AllocError>
+// The text of a settlement, or of the refusal alone.
+pub fn outcome_text(
+    heap: Global,
+    outcome: Result<Settlement, Refusal>,
+) -> Result<String, AllocError>
     ensures { IfOk result (λ s. string_bytes s ≡ outcome_text outcome) }
 {
     match outcome {
-        Ok(summary) => format!(in heap; "{summary}"),
+        Ok(settlement) => settlement_text(heap, settlement),
         Err(refusal) => format!(in heap; "{refusal}\n"),
     }
 }

@@ -2,3 +2,4 @@ pub mod Services
 pub mod Trials
 pub mod VariableRule
 pub mod WorkedWeights
+pub mod Alike

@@ -5,4 +5,5 @@ pub mod Groups
 pub mod Services
 pub mod Weights
 pub mod VariableRule
+pub mod Chosen
 pub mod WorkedWeights

@@ -2,6 +2,7 @@
 #![tactic(auto)]
 
 pub mod base;
+pub mod chosen;
 pub mod group;
 pub mod limits;
 pub mod rule;

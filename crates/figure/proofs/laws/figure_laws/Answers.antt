@@ -1,4 +1,5 @@
 use Rattle.figure.proofs.Meanings.{base_is_signed, ramp_is_first, empty_by_recovery, level_value}
+use Rattle.figure.proofs.Barred.{refused_by_defects}
 use Rattle.figure.proofs.Once.{one_answer, one_exact_delivery}
 use Rattle.figure.proofs.Faithful.{reports_are_faithful}
 use Rattle.figure.proofs.AfterRecovery.{power_after_recovery}
@@ -12,6 +13,7 @@ returns c = record {
   level_value = level_value;
   one_answer = one_answer;
   one_exact_delivery = one_exact_delivery;
+  refused_by_defects = refused_by_defects;
   reports_are_faithful = reports_are_faithful;
   power_after_recovery = power_after_recovery;
 }

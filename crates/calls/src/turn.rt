@@ -1,0 +1,105 @@
+// One call on a docket in either state.
+ghost use Rattle.calls.specs.Calls.{meaning_of, close};
+ghost use Rattle.calls.specs.States.{TakesTurn};
+
+use crate::answer::Answer;
+use crate::call::Call;
+use docket::docket::{ClosedDocket, Kept, OpenDocket};
+use recording::interface::Recording;
+use recording::sample::Sample;
+use response::rule::ResponseRule;
+
+// A docket in either state.
+#[derive(Drop)]
+pub(crate) enum State {
+    Open(OpenDocket),
+    Closed(ClosedDocket),
+}
+
+// A docket after a call, and the answer, if its state offers the call.
+#[derive(Drop)]
+pub(crate) struct Turn {
+    pub(crate) state: State,
+    pub(crate) answer: Option<Answer>,
+}
+
+// A call on an open docket.
+fn open_turn<R: Recording, P: ResponseRule>(
+    mut docket: OpenDocket,
+    table: &mut [Sample],
+    call: Call<'_, R, P>,
+) -> Turn
+    ensures { TakesTurn (State.Open docket) table.old (meaning_of R.meaning P.ResponseRule.triggers P.ResponseRule.weighs call.entry) result table.new }
+{
+    let answer = match call {
+        Call::Put(reading) => Some(docket.put(table, reading).into()),
+        Call::Load(recording) => Some(docket.load(table, recording).into()),
+        Call::Amend(place, reading) => Some(docket.amend(table, place, reading).into()),
+        Call::Strike(place) => Some(docket.strike(table, place).into()),
+        Call::Close => return close_turn(docket, table),
+        Call::Deliver(_) | Call::Reopen => None,
+    };
+    Turn {
+        state: State::Open(docket),
+        answer,
+    }
+}
+
+// Closing an open docket.
+fn close_turn(docket: OpenDocket, table: &[Sample]) -> Turn
+    ensures { TakesTurn (State.Open docket) table.now close result table.now }
+{
+    match docket.close(table) {
+        Ok(docket) => {
+            let answer = Some(Answer::Closed(docket.disturbance()));
+            Turn {
+                state: State::Closed(docket),
+                answer,
+            }
+        }
+        Err(Kept { docket, refusal }) => Turn {
+            state: State::Open(docket),
+            answer: Some(Answer::Refused(refusal)),
+        },
+    }
+}
+
+// A call on a closed docket.
+fn closed_turn<R: Recording, P: ResponseRule>(
+    docket: ClosedDocket,
+    table: &[Sample],
+    call: Call<'_, R, P>,
+) -> Turn
+    ensures { TakesTurn (State.Closed docket) table.now (meaning_of R.meaning P.ResponseRule.triggers P.ResponseRule.weighs call.entry) result table.now }
+{
+    let answer = match call {
+        Call::Deliver(request) => Some(docket.deliver(table, request).into()),
+        Call::Reopen => {
+            return Turn {
+                state: State::Open(docket.reopen()),
+                answer: Some(Answer::Reopened),
+            };
+        }
+        Call::Put(_) | Call::Load(_) | Call::Amend(_, _) | Call::Strike(_) | Call::Close => None,
+    };
+    Turn {
+        state: State::Closed(docket),
+        answer,
+    }
+}
+
+impl State {
+    // One call, if the state offers it.
+    pub(crate) fn take<R: Recording, P: ResponseRule>(
+        self,
+        table: &mut [Sample],
+        call: Call<'_, R, P>,
+    ) -> Turn
+        ensures { TakesTurn self table.old (meaning_of R.meaning P.ResponseRule.triggers P.ResponseRule.weighs call.entry) result table.new }
+    {
+        match self {
+            State::Open(docket) => open_turn(docket, table, call),
+            State::Closed(docket) => closed_turn(docket, table, call),
+        }
+    }
+}

@@ -1,0 +1,10 @@
+// Examples of lists of calls on one docket, and of deliveries on a closed docket. The
+// figures are those of the tests of deliveries, or were worked out by hand where a comment shows how.
+#![tactic(auto)]
+
+#[cfg(test)]
+mod asking;
+#[cfg(test)]
+mod days;
+#[cfg(test)]
+mod tables;

@@ -1,0 +1,38 @@
+-- What is answered to a delivery on a closed record.
+use Rattle.std.specs.Prelude.{◌≡◌, ℕ, List, take, Some, Err, IfOk, Result}
+use Rattle.recording.specs.declared.refusal.Refusal.{Refusal}
+use Rattle.recording.specs.declared.refusal.Reason.TheVariants.{OtherTable}
+use Rattle.recording.specs.declared.sample.Sample.{Sample}
+use Rattle.recording.specs.Refusals.{refusal}
+use Rattle.timeline.specs.Orders.{Sound}
+use Rattle.timeline.specs.Samples.{samples}
+use Rattle.disturbance.specs.declared.disturbance.Disturbance.{Disturbance}
+use Rattle.disturbance.specs.Disturbance.{Disturbed, disturbance_of}
+use Rattle.figure.specs.declared.report.Report.{Report}
+use Rattle.figure.specs.Barred.{RefusedExactly}
+use Rattle.figure.specs.Exactness.{Faithful}
+use Rattle.figure.specs.Reports.{Delivers}
+use Rattle.docket.specs.Requests.{Sought, asked_on}
+
+-- r is what a deliver on the samples xs answers
+pub record Delivered (xs : List Sample) (q : Sought) (r : Result Report Refusal) : Type 0 where
+  pub disturbance : Disturbance
+  -- the time and direction are those of the samples
+  pub disturbed : Disturbed xs disturbance
+  -- the report that the steps define, or the refusal of the first defect in the checking order; and no other
+  pub answer : Delivers (asked_on xs disturbance q) r
+  pub only : (s : Result Report Refusal) → Delivers (asked_on xs disturbance q) s → s ≡ r
+  -- a report is less than one watt from the exact delivery, and its verdict is fair
+  pub faithful : IfOk r (Faithful (asked_on xs disturbance q))
+  -- it is refused exactly where a defect applies
+  pub refused : RefusedExactly (asked_on xs disturbance q) r
+
+-- the counted samples of a table are sound and have the disturbance that a docket was closed on
+pub record Belongs (count : ℕ) (disturbance : Disturbance) (table : List Sample) : Type 0 where
+  pub sound : Sound samples count table
+  pub found : disturbance_of (take count table) ≡ Some disturbance
+
+-- deliver on a docket closed on so many samples and a disturbance, with any table: refused for a table that is another's, before anything else
+pub record DeliversFrom (count : ℕ) (disturbance : Disturbance) (table : List Sample) (q : Sought) (r : Result Report Refusal) : Type 0 where
+  pub own : Belongs count disturbance table → Delivered (take count table) q r
+  pub other : (Belongs count disturbance table → ⊥) → r ≡ Err (refusal OtherTable 0 0)

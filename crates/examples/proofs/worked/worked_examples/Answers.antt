@@ -1,0 +1,5 @@
+use Rattle.examples.proofs.Joint.{worked_examples_lem}
+use Rattle.examples.proofs.worked.worked_examples.Goals as goal
+
+pub returns : goal.returns
+returns c = worked_examples_lem

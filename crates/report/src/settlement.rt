@@ -1,0 +1,129 @@
+// A recording on a docket of its own, settled for every service.
+ghost use Rattle.std.specs.Prelude.{◌≡◌, ◌<◌, List, length, map, slice_index_or, Result as Either};
+ghost use Rattle.std.specs.List.{All};
+ghost use Rattle.recording.specs.declared.refusal.Refusal.{Refusal as SentBack};
+ghost use Rattle.timeline.specs.Timelines.{over};
+ghost use Rattle.calls.specs.Calls.{meaning_of, deliver};
+ghost use Rattle.calls.specs.Turns.{reported};
+ghost use Rattle.report.specs.declared.settlement.Delivery.{Delivery as Settled};
+ghost use Rattle.report.specs.Settlements.{services, bare, in_turn, taken, OfDelivery, Settles};
+
+use calls::answer::Answer;
+use calls::call::Call;
+use calls::run::run;
+use docket::request::Request;
+use figure::report::{Claim, Report};
+use recording::interface::Recording;
+use recording::refusal::Refusal;
+use recording::sample::Sample;
+use response::rule::ResponseRule;
+use response::service::Service;
+use response::settings::Settings;
+
+// What is answered for a service: the report of its delivery, or the first defect.
+#[derive(Clone, Copy)]
+pub struct Delivery {
+    pub service: Service,
+    pub answer: Result<Report, Refusal>,
+}
+
+// The deliveries of the six services, in the order in which they are told.
+pub type Settlement = [Delivery; 6];
+
+// The call that delivers a service, with no targets and nothing enabled.
+fn delivering<'a, R: Recording, P: ResponseRule>(
+    settings: &'a Settings,
+    rule: &'a P,
+    service: Service,
+) -> Call<'a, R, P>
+    ensures { meaning_of R.meaning P.ResponseRule.triggers P.ResponseRule.weighs result ≡ deliver (bare settings.now (P.ResponseRule.triggers rule.now) (P.ResponseRule.weighs rule.now) service) }
+{
+    let claim = Claim {
+        service,
+        enabled: 0,
+    };
+    Call::Deliver(Request {
+        settings,
+        rule,
+        targets: &[],
+        count: 0,
+        claim,
+    })
+}
+
+// The calls that settle a recording.
+fn settling<'a, R: Recording, P: ResponseRule>(
+    recording: &'a R,
+    settings: &'a Settings,
+    rule: &'a P,
+) -> [Call<'a, R, P>; 8]
+    ensures { map (meaning_of R.meaning P.ResponseRule.triggers P.ResponseRule.weighs) result ≡ in_turn (R.meaning recording.now) (bare settings.now (P.ResponseRule.triggers rule.now) (P.ResponseRule.weighs rule.now)) }
+{
+    [
+        Call::Load(recording),
+        Call::Close,
+        delivering(settings, rule, Service::R6),
+        delivering(settings, rule, Service::L6),
+        delivering(settings, rule, Service::R60),
+        delivering(settings, rule, Service::L60),
+        delivering(settings, rule, Service::R5),
+        delivering(settings, rule, Service::L5),
+    ]
+}
+
+// The delivery of a service, whose answer stands at a place.
+fn delivery_at(service: Service, answers: &[Answer], place: usize) -> Delivery
+    requires answers { All OfDelivery answers.now }
+    requires place { place < length answers.now }
+    ensures service { result.service ≡ service }
+    ensures answer { (d : _) → reported result.answer ≡ slice_index_or answers.now place d }
+{
+    let answer = match answers[place] {
+        Answer::Reported(report) => Ok(report),
+        Answer::Refused(refusal) => Err(refusal),
+        Answer::Counted(_) | Answer::Closed(_) | Answer::Reopened => unreachable!(),
+    };
+    Delivery { service, answer }
+}
+
+// The deliveries that the answers of the six services tell.
+fn deliveries(answers: &[Answer]) -> Settlement
+    requires answers { All OfDelivery answers.now }
+    requires all { length answers.now ≡ 6 }
+    ensures services { map (λ d. d.service) result ≡ services }
+    ensures answers { map (λ d. reported d.answer) result ≡ answers.now }
+{
+    [
+        delivery_at(Service::R6, answers, 0),
+        delivery_at(Service::L6, answers, 1),
+        delivery_at(Service::R60, answers, 2),
+        delivery_at(Service::L60, answers, 3),
+        delivery_at(Service::R5, answers, 4),
+        delivery_at(Service::L5, answers, 5),
+    ]
+}
+
+// Loads a recording into a new docket, closes it and delivers every service with no targets and nothing
+// enabled, in one list of calls: what is delivered, or the refusal of load or close.
+pub fn settle<R: Recording, P: ResponseRule>(
+    table: &mut [Sample],
+    recording: &R,
+    settings: &Settings,
+    rule: &P,
+) -> Result<Settlement, Refusal>
+    ensures outcome { Settles (length table.old) (R.meaning recording.now) (bare settings.now (P.ResponseRule.triggers rule.now) (P.ResponseRule.weighs rule.now)) result }
+    ensures only { (o : Either (List Settled) SentBack) → Settles (length table.old) (R.meaning recording.now) (bare settings.now (P.ResponseRule.triggers rule.now) (P.ResponseRule.weighs rule.now)) o → o ≡ result }
+    ensures table { table.new ≡ over (taken (length table.old) (R.meaning recording.now)) table.old }
+{
+    let calls = settling(recording, settings, rule);
+    let mut answers = [Answer::Reopened; 8];
+    // What the run itself tells is not needed: a call is not offered only after a refused one.
+    let _ = run(table, &calls, &mut answers);
+    if let Answer::Refused(refusal) = answers[0] {
+        return Err(refusal);
+    }
+    if let Answer::Refused(refusal) = answers[1] {
+        return Err(refusal);
+    }
+    Ok(deliveries(&answers[2..]))
+}
