@@ -1,7 +1,7 @@
-// A list of calls on one docket and its table, from new.
+// Calls on one docket and its table: one at a time, and any list of them from new.
 #![tactic(auto)]
 
 pub mod answer;
 pub mod call;
 pub mod run;
-mod turn;
+pub mod turn;

@@ -1,5 +1,6 @@
 // One call on a docket in either state.
 ghost use Rattle.calls.specs.Calls.{meaning_of, close};
+ghost use Rattle.calls.specs.Outcomes.{Does};
 ghost use Rattle.calls.specs.States.{TakesTurn};
 
 use crate::answer::Answer;
@@ -11,16 +12,16 @@ use response::rule::ResponseRule;
 
 // A docket in either state.
 #[derive(Drop)]
-pub(crate) enum State {
+pub enum State {
     Open(OpenDocket),
     Closed(ClosedDocket),
 }
 
 // A docket after a call, and the answer, if its state offers the call.
 #[derive(Drop)]
-pub(crate) struct Turn {
-    pub(crate) state: State,
-    pub(crate) answer: Option<Answer>,
+pub struct Turn {
+    pub state: State,
+    pub answer: Option<Answer>,
 }
 
 // A call on an open docket.
@@ -29,7 +30,8 @@ fn open_turn<R: Recording, P: ResponseRule>(
     table: &mut [Sample],
     call: Call<'_, R, P>,
 ) -> Turn
-    ensures { TakesTurn (State.Open docket) table.old (meaning_of R.meaning P.ResponseRule.triggers P.ResponseRule.weighs call.entry) result table.new }
+    ensures history { TakesTurn (State.Open docket) table.old (meaning_of R.meaning P.ResponseRule.triggers P.ResponseRule.weighs call.entry) result table.new }
+    ensures outcome { Does (State.Open docket) table.old (meaning_of R.meaning P.ResponseRule.triggers P.ResponseRule.weighs call.entry) result table.new }
 {
     let answer = match call {
         Call::Put(reading) => Some(docket.put(table, reading).into()),
@@ -47,7 +49,8 @@ fn open_turn<R: Recording, P: ResponseRule>(
 
 // Closing an open docket.
 fn close_turn(docket: OpenDocket, table: &[Sample]) -> Turn
-    ensures { TakesTurn (State.Open docket) table.now close result table.now }
+    ensures history { TakesTurn (State.Open docket) table.now close result table.now }
+    ensures outcome { Does (State.Open docket) table.now close result table.now }
 {
     match docket.close(table) {
         Ok(docket) => {
@@ -70,7 +73,8 @@ fn closed_turn<R: Recording, P: ResponseRule>(
     table: &[Sample],
     call: Call<'_, R, P>,
 ) -> Turn
-    ensures { TakesTurn (State.Closed docket) table.now (meaning_of R.meaning P.ResponseRule.triggers P.ResponseRule.weighs call.entry) result table.now }
+    ensures history { TakesTurn (State.Closed docket) table.now (meaning_of R.meaning P.ResponseRule.triggers P.ResponseRule.weighs call.entry) result table.now }
+    ensures outcome { Does (State.Closed docket) table.now (meaning_of R.meaning P.ResponseRule.triggers P.ResponseRule.weighs call.entry) result table.now }
 {
     let answer = match call {
         Call::Deliver(request) => Some(docket.deliver(table, request).into()),
@@ -90,12 +94,13 @@ fn closed_turn<R: Recording, P: ResponseRule>(
 
 impl State {
     // One call, if the state offers it.
-    pub(crate) fn take<R: Recording, P: ResponseRule>(
+    pub fn take<R: Recording, P: ResponseRule>(
         self,
         table: &mut [Sample],
         call: Call<'_, R, P>,
     ) -> Turn
-        ensures { TakesTurn self table.old (meaning_of R.meaning P.ResponseRule.triggers P.ResponseRule.weighs call.entry) result table.new }
+        ensures history { TakesTurn self table.old (meaning_of R.meaning P.ResponseRule.triggers P.ResponseRule.weighs call.entry) result table.new }
+        ensures outcome { Does self table.old (meaning_of R.meaning P.ResponseRule.triggers P.ResponseRule.weighs call.entry) result table.new }
     {
         match self {
             State::Open(docket) => open_turn(docket, table, call),

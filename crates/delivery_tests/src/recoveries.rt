@@ -5,6 +5,7 @@ use crate::long::*;
 use crate::records::*;
 use disturbance::direction::Direction;
 use figure::report::Verdict;
+use recording::sample::Sample;
 use response::service::Service;
 use response::settings::Proposal;
 use std::test::Fail;
@@ -281,5 +282,63 @@ fn recovery_at_the_millisecond_after_the_disturbance(rt: HostRuntime) -> Result<
         &rt,
         variable(plain(&samples, Service::R6)),
         met(20_001, 20_002, 2_000),
+    )
+}
+
+// A battery that draws 20,000 W, answers with 1,000,000 W above that, and has another power at 20,200, where the
+// network is at this frequency. The weighed responses from 20,000 on are 0, 400,004 * 6.25/5 = 500,005, and twice
+// 1,000,000: over three times 50 ms they average 250,002.5, 750,002.5 and 1,000,000.
+fn held_until(frequency: u32, power: i32) -> [Sample; 9] {
+    [
+        at(4_000, 50_000, -19_000),
+        at(10_000, 50_000, -21_000),
+        at(19_950, 49_900, -20_000),
+        at(20_000, 49_849, -20_000),
+        at(20_050, 49_845, 380_004),
+        at(20_100, 49_895, 980_000),
+        at(20_150, 49_951, 980_000),
+        at(20_200, frequency, power),
+        at(20_250, 50_050, -20_000),
+    ]
+}
+
+// 50,000 at 20,199 and 50,001 at 20,200, the very sample at which the battery has stepped back, or further up. The
+// last 50 ms are level: 3,000,005/4 = 750,001.25, times 2. With the step back counted in it would be 1,250,003.
+#[test]
+fn a_step_at_recovery_does_not_count(rt: HostRuntime) -> Result<(), Fail> {
+    let back = held_until(50_001, -20_000);
+    delivers(
+        &rt,
+        variable(plain(&back, Service::R6)),
+        met(20_000, 20_200, 1_500_003),
+    )?;
+    let up = held_until(50_001, 1_980_000);
+    delivers(
+        &rt,
+        variable(plain(&up, Service::R6)),
+        met(20_000, 20_200, 1_500_003),
+    )
+}
+
+// 50,000.98 at 20,199: 49 ms are level, 149,000,250/199 = 748,744.97, times 2.
+#[test]
+fn a_step_a_millisecond_after_recovery_does_not_count(rt: HostRuntime) -> Result<(), Fail> {
+    let samples = held_until(50_002, -20_000);
+    delivers(
+        &rt,
+        variable(plain(&samples, Service::R6)),
+        met(20_000, 20_199, 1_497_490),
+    )
+}
+
+// 50,000 at 20,200 and 50,001 at 20,201: down to 0 in the last 50 ms, and 1 ms level there. 125,000,250/201 =
+// 621,891.79, times 2.
+#[test]
+fn a_step_a_millisecond_before_recovery_counts(rt: HostRuntime) -> Result<(), Fail> {
+    let samples = held_until(50_000, -20_000);
+    delivers(
+        &rt,
+        variable(plain(&samples, Service::R6)),
+        met(20_000, 20_201, 1_243_784),
     )
 }

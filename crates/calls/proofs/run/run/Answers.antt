@@ -13,14 +13,14 @@ loop-place-preserved g c =
     let call = meaning_of g.R.Recording.meaning g.P.ResponseRule.triggers g.P.ResponseRule.weighs in
     let lt : c.loop-place.place < min (length c.args.calls.now) (length c.args.answers.now) = omega (arith, c.min-count.ensures, c.loop-place-test.true) in
     turned _ _ _ c.loop-place.place c.loop-place.state c.loop-place.table c.loop-place.answers c.loop-place.invariant (call c.index-calls-place.result)
-    (call_at call c.args.calls.now (length c.args.answers.now) c.loop-place.place c.index-calls-place.result lt c.index-calls-place.is) (omega (arith, lt)) c.take-turn.result c.take-turn.new.table c.take-turn.ensures c.in-Some.answer c.in-Some.is
+    (call_at call c.args.calls.now (length c.args.answers.now) c.loop-place.place c.index-calls-place.result lt c.index-calls-place.is) (omega (arith, lt)) c.take-turn.result c.take-turn.new.table c.take-turn.ensures.history c.in-Some.answer c.in-Some.is
 
 pub returns-in_default : goal.returns-in_default
 returns-in_default g c =
     let call = meaning_of g.R.Recording.meaning g.P.ResponseRule.triggers g.P.ResponseRule.weighs in
     let lt : c.loop-place.place < min (length c.args.calls.now) (length c.args.answers.now) = omega (arith, c.min-count.ensures, c.loop-place-test.true) in
     let h = stopped _ _ _ c.loop-place.place c.loop-place.state c.loop-place.table c.loop-place.answers c.loop-place.invariant (call c.index-calls-place.result)
-    (call_at call c.args.calls.now (length c.args.answers.now) c.loop-place.place c.index-calls-place.result lt c.index-calls-place.is) (omega (arith, lt, length_taken call c.args.calls.now (length c.args.answers.now))) c.take-turn.result c.take-turn.new.table c.take-turn.ensures c.in_default.is in
+    (call_at call c.args.calls.now (length c.args.answers.now) c.loop-place.place c.index-calls-place.result lt c.index-calls-place.is) (omega (arith, lt, length_taken call c.args.calls.now (length c.args.answers.now))) c.take-turn.result c.take-turn.new.table c.take-turn.ensures.history c.in_default.is in
     record { answers = h; only = λ s left filled k. ran_once _ _ _ s _ left _ filled _ k h }
 
 pub returns : goal.returns

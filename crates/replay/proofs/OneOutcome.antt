@@ -1,0 +1,88 @@
+-- A call on a docket and a table has one outcome.
+use Rattle.std.proofs.Common.{◌≡◌, ℕ, Bool, true, false, List, take, Some, None, Option, Result, ◌⊎◌, inl, inr, sym, refl, ap, ◌∙◌}
+use Rattle.std.specs.Bool.{Decides}
+use Rattle.std.proofs.lemmas.Bool.Decides.{eqb_tells}
+use Rattle.recording.specs.declared.refusal.Reason.{Reason}
+use Rattle.recording.specs.declared.refusal.Refusal.{Refusal}
+use Rattle.recording.specs.declared.sample.Sample.{Sample}
+use Rattle.timeline.specs.Checks.{Check}
+use Rattle.timeline.specs.Orders.{is_sound}
+use Rattle.timeline.specs.Samples.{samples}
+use Rattle.timeline.specs.Timelines.{Outcome}
+use Rattle.timeline.proofs.Orders.{decides_sound}
+use Rattle.disturbance.specs.declared.direction.Direction.{Direction}
+use Rattle.disturbance.specs.declared.direction.Direction.TheVariants.{Low, High}
+use Rattle.disturbance.specs.declared.disturbance.Disturbance.{Disturbance}
+use Rattle.disturbance.specs.Disturbance.{disturbance_of}
+use Rattle.figure.specs.declared.report.Report.{Report}
+use Rattle.docket.specs.Requests.{Sought}
+use Rattle.docket.specs.Deliveries.{Belongs, DeliversFrom}
+use Rattle.calls.specs.declared.turn.State.{State}
+use Rattle.calls.specs.declared.turn.State.TheVariants.{Open, Closed}
+use Rattle.calls.specs.declared.turn.Turn.{Turn}
+use Rattle.calls.specs.Calls.{Meaning, put, load, amend, strike, close, deliver, reopen}
+use Rattle.calls.specs.Outcomes.{Does, counting, delivering}
+use Rattle.calls.proofs.Once.{delivered_once}
+
+-- ---- a timeline's calls
+pub outcome_once : {E F : Type 0} {faults : List (Check Reason)} {refused : Reason → F} {xs old : List E} (r s : Result ℕ F) (new other : List E) → Outcome faults refused xs old r new → Outcome faults refused xs old s other → (r ≡ s) × (new ≡ other)
+outcome_once r s new other h k = (h.answer ∙ sym k.answer, h.table ∙ sym k.table)
+
+-- ---- a delivery
+same_direction : (a b : Direction) → (a ≡ b) ⊎ (a ≡ b → ⊥)
+same_direction Low Low = inl refl
+same_direction Low High = inr (λ e. cc)
+same_direction High Low = inr (λ e. cc)
+same_direction High High = inl refl
+
+same_disturbance : (a b : Disturbance) → (a ≡ b) ⊎ (a ≡ b → ⊥)
+same_disturbance a b = elim (eqb_tells a.time b.time) [
+  | inl t ↦ elim (same_direction a.direction b.direction) [
+    | inl d ↦ inl (ap (λ x. record { time = x; direction = a.direction }) t.1 ∙ ap (λ x. record { time = b.time; direction = x }) d)
+    | inr n ↦ inr (λ e. n (ap (λ x. x.direction) e))
+  ]
+  | inr t ↦ inr (λ e. t.1 (ap (λ x. x.time) e))
+]
+
+found_or_not : (o : Option Disturbance) (d : Disturbance) → (o ≡ Some d) ⊎ (o ≡ Some d → ⊥)
+found_or_not None d = inr (λ e. cc)
+found_or_not (Some a) d = elim (same_disturbance a d) [ inl e ↦ inl (ap Some e) | inr n ↦ inr (λ e. n (cc)) ]
+
+sound_or_not : {P : Type 0} (b : Bool) → Decides b P → P ⊎ (P → ⊥)
+sound_or_not true d = inl (d.0 refl)
+sound_or_not false d = inr (λ p. let e : false ≡ true = d.1 p in absurd (cc))
+
+belongs_or_not : (count : ℕ) (d : Disturbance) (table : List Sample) → Belongs count d table ⊎ (Belongs count d table → ⊥)
+belongs_or_not count d table = elim (sound_or_not (is_sound samples count table) (decides_sound samples count table)) [
+  | inl s ↦ elim (found_or_not (disturbance_of (take count table)) d) [
+    | inl f ↦ inl (record { sound = s; found = f })
+    | inr n ↦ inr (λ b. n b.found)
+  ]
+  | inr n ↦ inr (λ b. n b.sound)
+]
+
+delivers_once : (count : ℕ) (d : Disturbance) (table : List Sample) (q : Sought) (r s : Result Report Refusal) → DeliversFrom count d table q r → DeliversFrom count d table q s → r ≡ s
+delivers_once count d table q r s h k = elim (belongs_or_not count d table) [
+  | inl b ↦ delivered_once (take count table) q r s (h.own b) (k.own b)
+  | inr n ↦ h.other n ∙ sym (k.other n)
+]
+
+-- ---- a call
+both : {t u : Turn} {l m : List Sample} (x : Turn) (y : List Sample) → (t ≡ x) × (l ≡ y) → (u ≡ x) × (m ≡ y) → (t ≡ u) × (l ≡ m)
+both x y h k = (h.0 ∙ sym k.0, h.1 ∙ sym k.1)
+
+pub does_once : (state : State) (table : List Sample) (c : Meaning) (t u : Turn) (l m : List Sample) → Does state table c t l → Does state table c u m → (t ≡ u) × (l ≡ m)
+does_once (Open d) table (put r) t u l m (o, h, e) (p, k, f) = let one = outcome_once o p l m h k in (e ∙ ap (λ x. counting x d.count) one.0 ∙ sym f, one.1)
+does_once (Open d) table (load ms) t u l m (o, h, e) (p, k, f) = (e ∙ ap (λ x. counting x d.count) (h.answer ∙ sym k.answer) ∙ sym f, h.leaves ∙ sym k.leaves)
+does_once (Open d) table (amend i r) t u l m (o, h, e) (p, k, f) = let one = outcome_once o p l m h k in (e ∙ ap (λ x. counting x d.count) one.0 ∙ sym f, one.1)
+does_once (Open d) table (strike i) t u l m (o, h, e) (p, k, f) = let one = outcome_once o p l m h.outcome k.outcome in (e ∙ ap (λ x. counting x d.count) one.0 ∙ sym f, one.1)
+does_once (Open d) table close t u l m h k = both _ _ h k
+does_once (Open d) table (deliver q) t u l m h k = both _ _ h k
+does_once (Open d) table reopen t u l m h k = both _ _ h k
+does_once (Closed d) table (put r) t u l m h k = both _ _ h k
+does_once (Closed d) table (load ms) t u l m h k = both _ _ h k
+does_once (Closed d) table (amend i r) t u l m h k = both _ _ h k
+does_once (Closed d) table (strike i) t u l m h k = both _ _ h k
+does_once (Closed d) table close t u l m h k = both _ _ h k
+does_once (Closed d) table (deliver q) t u l m (o, h, e, x) (p, k, f, y) = (e ∙ ap (λ z. delivering z d) (delivers_once d.count d.disturbance table q o p h k) ∙ sym f, x ∙ sym y)
+does_once (Closed d) table reopen t u l m h k = both _ _ h k

@@ -1,0 +1,97 @@
+// A docket and its table, which calls are made on one after the other.
+ghost use Rattle.std.specs.Prelude.{◌≡◌, ℕ, List, IfOk, length, replicate};
+ghost use Rattle.recording.specs.declared.interface.Member.{Member as Item};
+ghost use Rattle.recording.specs.Makes.{Recorded};
+ghost use Rattle.calls.specs.Calls.{load, deliver};
+ghost use Rattle.calls.specs.Outcomes.{open_with};
+ghost use Rattle.replay.specs.Plans.{seeks};
+ghost use Rattle.replay.specs.Desks.{meant, Called, blank_table};
+
+use crate::plan::Plan;
+use crate::reply::Reply;
+use calls::call::Call;
+use calls::turn::State;
+use docket::docket::OpenDocket;
+use docket::request::Request;
+use figure::report::Claim;
+use recording::makes::{ByteRecording, Make};
+use recording::sample::Sample;
+use response::chosen::Rule;
+use response::settings::Settings;
+use std::alloc::{AllocError, Global};
+use std::mem;
+
+// What every place of a new table holds.
+const BLANK: Sample = Sample {
+    time: 0,
+    frequency: 0,
+    power: 0,
+};
+
+#[derive(Drop)]
+pub struct Desk {
+    pub table: Vec<Sample>,
+    pub state: State,
+}
+
+impl Desk {
+    // A new docket, and a new table of so many places.
+    pub(crate) fn new(heap: Global, places: usize) -> Result<Desk, AllocError>
+        ensures { IfOk result (λ desk. (desk.table.items ≡ blank_table places) × (desk.state ≡ open_with 0)) }
+    {
+        Ok(Desk {
+            table: vec![in heap; BLANK; places]?,
+            state: State::Open(OpenDocket::new()),
+        })
+    }
+
+    // A new table of so many places. The docket stays.
+    pub(crate) fn change_table(&mut self, heap: Global, places: usize) -> Result<Reply, AllocError>
+        ensures { IfOk result (λ reply. (reply ≡ Reply.Done) × (self.new.table.items ≡ blank_table places) × (self.new.state ≡ self.old.state)) }
+    {
+        self.table = vec![in heap; BLANK; places]?;
+        Ok(Reply::Done)
+    }
+
+    // A new docket. The table stays.
+    pub(crate) fn change_docket(&mut self) -> Reply
+        ensures reply { result ≡ Reply.Done }
+        ensures table { self.new.table ≡ self.old.table }
+        ensures state { self.new.state ≡ open_with 0 }
+    {
+        self.state = State::Open(OpenDocket::new());
+        Reply::Done
+    }
+
+    // One call on the docket and its table.
+    pub(crate) fn call(&mut self, call: Call<'_, ByteRecording<'_>, Rule>) -> Reply
+        ensures { Called self.old (meant call.entry) result self.new }
+    {
+        let state = mem::replace(&mut self.state, State::Open(OpenDocket::new()));
+        let turn = state.take(self.table.as_mut_slice(), call);
+        self.state = turn.state;
+        turn.answer.into()
+    }
+
+    // Loads the recording that bytes make.
+    pub(crate) fn load(&mut self, make: Make, bytes: &[u8]) -> Reply
+        ensures { (ms : List Item) → Recorded make bytes.now ms → Called self.old (load ms) result self.new }
+    {
+        let recording = ByteRecording::new(make, bytes);
+        self.call(Call::Load(&recording))
+    }
+
+    // Delivers what is claimed, with settings and a plan.
+    pub(crate) fn deliver(&mut self, settings: &Settings, plan: &Plan, claim: Claim) -> Reply
+        ensures { Called self.old (deliver (seeks settings.now plan.now claim)) result self.new }
+    {
+        let rule = plan.rule_by(settings);
+        self.call(Call::Deliver(Request {
+            settings,
+            rule: &rule,
+            targets: &plan.targets,
+            count: plan.count,
+            claim,
+        }))
+    }
+}

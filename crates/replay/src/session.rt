@@ -1,0 +1,126 @@
+// A session: a docket with its table, and what deliveries are made with.
+ghost use Rattle.std.specs.Prelude.{◌≡◌, None, IfOk};
+ghost use Rattle.replay.specs.Sessions.{Fresh, Acts, Tries, Loads, digits_of, Delivers, Claims};
+
+use crate::desk::Desk;
+use crate::plan::Plan;
+use crate::reply::Reply;
+use calls::call::Call;
+use figure::report::Claim;
+use hex::FromHexError;
+use recording::makes::Make;
+use response::base::BaseWindow;
+use response::service::Service;
+use response::settings::Settings;
+use response::trial::Trial;
+use script::command::Command;
+use std::alloc::{AllocError, Global};
+use timeline::sample::MOST_SAMPLES;
+
+#[derive(Drop)]
+pub struct Session {
+    pub desk: Desk,
+    pub settings: Settings,
+    // the base window that each delivery tries, if one is tried
+    pub trial: Option<BaseWindow>,
+    pub plan: Plan,
+}
+
+impl Session {
+    // A new docket, as many places as a docket may hold samples, the plain settings and no targets.
+    pub fn new(heap: Global) -> Result<Session, AllocError>
+        ensures { IfOk result Fresh }
+    {
+        Ok(Session {
+            desk: Desk::new(heap, MOST_SAMPLES)?,
+            settings: Settings::plain(),
+            trial: None,
+            plan: Plan::new(),
+        })
+    }
+
+    // Does what a line says, and replies to it.
+    pub fn act(&mut self, heap: Global, command: Command<'_>) -> Result<Reply, AllocError>
+        ensures { IfOk result (λ reply. Acts self.old command.entry reply self.new) }
+    {
+        Ok(match command {
+            Command::New => self.desk.change_docket(),
+            Command::Places(places) => self.desk.change_table(heap, places)?,
+            Command::Settings(proposal) => self.settings.change(proposal).into(),
+            Command::Trial(begin, end) => self.begin_trial(begin, end),
+            Command::TrialEnd => self.end_trial(),
+            Command::TargetTable => self.plan.change_table(),
+            Command::TargetPut(target) => Reply::Told(self.plan.put(target).into()),
+            Command::TargetAmend(place, target) => {
+                Reply::Told(self.plan.amend(place, target).into())
+            }
+            Command::TargetStrike(place) => Reply::Told(self.plan.strike(place).into()),
+            Command::Rule(choice) => {
+                self.plan.rule = choice;
+                Reply::Done
+            }
+            Command::Put(reading) => self.desk.call(Call::Put(reading)),
+            Command::Amend(place, reading) => self.desk.call(Call::Amend(place, reading)),
+            Command::Load(make, digits) => self.load(heap, make, digits)?,
+            Command::Strike(place) => self.desk.call(Call::Strike(place)),
+            Command::Close => self.desk.call(Call::Close),
+            Command::Deliver(code, enabled) => self.deliver(code, enabled),
+            Command::Reopen => self.desk.call(Call::Reopen),
+        })
+    }
+
+    // Lets each later delivery try a window, unless it is outside its limits.
+    fn begin_trial(&mut self, begin: u32, end: u32) -> Reply
+        ensures { Tries self.old begin end result self.new }
+    {
+        match BaseWindow::new(begin, end) {
+            Ok(window) => {
+                self.trial = Some(window);
+                Reply::Done
+            }
+            Err(refusal) => refusal.into(),
+        }
+    }
+
+    // Lets later deliveries have the settings as they are.
+    fn end_trial(&mut self) -> Reply
+        ensures reply { result ≡ Reply.Done }
+        ensures leaves { self.new ≡ record (self.old) { trial = None } }
+    {
+        self.trial = None;
+        Reply::Done
+    }
+
+    // Loads the recording whose bytes the digits write. A text that writes none is no call.
+    fn load(&mut self, heap: Global, make: Make, digits: Option<&str>) -> Result<Reply, AllocError>
+        ensures { IfOk result (λ reply. Loads self.old make (digits_of digits.entry) reply self.new) }
+    {
+        let digits = digits.unwrap_or("");
+        match hex::decode(heap, digits) {
+            Ok(bytes) => Ok(self.desk.load(make, bytes.as_slice())),
+            Err(FromHexError::OutOfMemory) => Err(AllocError),
+            Err(_) => Ok(Reply::NoCall),
+        }
+    }
+
+    // Delivers the service with a code. A text that is no code is refused.
+    fn deliver(&mut self, code: &str, enabled: i64) -> Reply
+        ensures { Delivers self.old code.now enabled result self.new }
+    {
+        match Service::from_code(code) {
+            Ok(service) => self.deliver_claim(Claim { service, enabled }),
+            Err(refusal) => refusal.into(),
+        }
+    }
+
+    // Delivers a claim, in a trial while a window is tried.
+    fn deliver_claim(&mut self, claim: Claim) -> Reply
+        ensures { Claims self.old claim result self.new }
+    {
+        let Some(window) = self.trial else {
+            return self.desk.deliver(&self.settings, &self.plan, claim);
+        };
+        let trial = Trial::begin(&mut self.settings, window);
+        self.desk.deliver(trial.settings(), &self.plan, claim)
+    }
+}

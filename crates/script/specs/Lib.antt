@@ -1,0 +1,3 @@
+pub mod Verbs
+pub mod Figures
+pub mod Lines
