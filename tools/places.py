@@ -76,7 +76,8 @@ def signatures(top):
             head = head[head.index("("):]
             inside = re.match(r"\(([^)]*)\)", head)
             params = [p.strip() for p in inside[1].replace("\n", " ").split(",") if ":" in p] if inside else []
-            yield crate, name, params, re.findall(r"^ *(requires|ensures)(?: \w+)? \{ (.*) \}$", body, re.M)
+            clauses = re.findall(r"^ *(requires|ensures)(?: \w+)? \{ (.*?) \}$", body, re.M | re.S)
+            yield crate, name, params, [(kind, " ".join(text.split())) for kind, text in clauses]
 
 
 def recurring(top):

@@ -1,3 +1,6 @@
 pub mod Taking
 pub mod Running
 pub mod Once
+pub mod Promising
+pub mod Refusals
+pub mod LedTo

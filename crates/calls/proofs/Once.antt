@@ -12,16 +12,17 @@ use Rattle.docket.specs.Deliveries.{Delivered}
 use Rattle.calls.specs.declared.answer.Answer.{Answer}
 use Rattle.calls.specs.declared.run.NotOffered.{NotOffered}
 use Rattle.calls.specs.Calls.{Meaning, put, load, amend, strike, close, deliver, reopen}
-use Rattle.calls.specs.Turns.{Turns, Unoffered, reported}
+use Rattle.calls.specs.Answers.{told, reported}
+use Rattle.calls.specs.Turns.{Turns, Unoffered}
 use Rattle.calls.specs.Runs.{Runs, ended, Ran}
 
 -- ---- one delivery, and one answer to a call
 pub delivered_once : (xs : List Sample) (q : Sought) (r s : Result Report Refusal) → Delivered xs q r → Delivered xs q s → r ≡ s
 delivered_once xs q r s h k =
     let same : h.disturbance ≡ k.disturbance = disturbance_laws_lem.same xs h.disturbance k.disturbance h.disturbed k.disturbed in
-    k.only r (subst (λ d. Delivers (asked_on xs d q) r) same h.answer)
+    k.no_other_answer r (subst (λ d. Delivers (asked_on xs d q) r) same h.the_report_of_the_steps_or_the_first_defect)
 
-turns_once : (places : ℕ) (a : Accepted) (c : Meaning) (x y : Answer) (b d : Accepted) → Turns places a c x b → Turns places a c y d → (x ≡ y) × (b ≡ d)
+pub turns_once : (places : ℕ) (a : Accepted) (c : Meaning) (x y : Answer) (b d : Accepted) → Turns places a c x b → Turns places a c y d → (x ≡ y) × (b ≡ d)
 turns_once places (opened xs) (put r) x y b d h k = (h.0 ∙ sym k.0, h.1 ∙ sym k.1)
 turns_once places (opened xs) (load ms) x y b d h k = (h.0 ∙ sym k.0, h.1 ∙ sym k.1)
 turns_once places (opened xs) (amend i r) x y b d h k = (h.0 ∙ sym k.0, h.1 ∙ sym k.1)
@@ -34,7 +35,7 @@ turns_once places (closed xs) (load ms) x y b d h k = absurd h
 turns_once places (closed xs) (amend i r) x y b d h k = absurd h
 turns_once places (closed xs) (strike i) x y b d h k = absurd h
 turns_once places (closed xs) close x y b d h k = absurd h
-turns_once places (closed xs) (deliver q) x y b d ((r, told, is), next) ((s, told', is'), next') = (told ∙ ap reported (delivered_once xs q r s is is') ∙ sym told', next ∙ sym next')
+turns_once places (closed xs) (deliver q) x y b d ((r, says, is), next) ((s, says', is'), next') = (says ∙ ap (λ o. told (reported o)) (delivered_once xs q r s is is') ∙ sym says', next ∙ sym next')
 turns_once places (closed xs) reopen x y b d h k = (h.0 ∙ sym k.0, h.1 ∙ sym k.1)
 
 -- a call that the mark does not allow has no answer

@@ -19,7 +19,8 @@ use Rattle.calls.specs.declared.answer.Answer.{Answer}
 use Rattle.calls.specs.declared.answer.Answer.TheVariants.{Closed as ClosedOn, Reopened, Refused}
 use Rattle.calls.specs.declared.turn.State.TheVariants.{Open, Closed}
 use Rattle.calls.specs.Calls.{Meaning, close as closing, deliver as delivering, reopen as reopening}
-use Rattle.calls.specs.Turns.{Turns, counted, told_closed, reported}
+use Rattle.calls.specs.Answers.{told, counted, closed_on as close_brings, reported}
+use Rattle.calls.specs.Turns.{Turns}
 use Rattle.calls.specs.States.{Took}
 
 -- ---- the mark is the docket's
@@ -47,10 +48,10 @@ closed_samples t d xs h leads = let e : closed xs ≡ closed (take d.count t) = 
 
 -- ---- put, load, amend and strike
 pub extended : (t left : List Sample) (d d' : OpenDocket) (r : Result ℕ Refusal) (c : Meaning) {then : List Sample → List Sample} (call : (xs : List Sample) → History (length t) (opened xs) → History (length t) (opened (then xs))) (says : List Sample → Result ℕ Refusal)
-    → ((xs : List Sample) → Turns (length t) (opened xs) c (counted (says xs)) (opened (then xs))) → Extends d t d' left r call says
-    → (answer : Answer) → answer ≡ counted r → (a : Accepted) (h : History (length t) a) → LeadsOpen h d t → Took (length t) a h c t (Some answer) (Open d') left
-extended t left d d' r c {then} call says turns extends answer told = at_open t d (λ a h. Took (length t) a h c t (Some answer) (Open d') left)
-    (λ xs h leads. let e = extends xs h leads in (opened (then xs), subst (λ x. Turns (length t) (opened xs) c x (opened (then xs))) (sym (told ∙ ap counted e.2)) (turns xs), e.1, (call xs h, e.0)))
+    → ((xs : List Sample) → Turns (length t) (opened xs) c (told (counted (says xs))) (opened (then xs))) → Extends d t d' left r call says
+    → (answer : Answer) → answer ≡ told (counted r) → (a : Accepted) (h : History (length t) a) → LeadsOpen h d t → Took (length t) a h c t (Some answer) (Open d') left
+extended t left d d' r c {then} call says turns extends answer is = at_open t d (λ a h. Took (length t) a h c t (Some answer) (Open d') left)
+    (λ xs h leads. let e = extends xs h leads in (opened (then xs), subst (λ x. Turns (length t) (opened xs) c x (opened (then xs))) (sym (is ∙ ap (λ x. told (counted x)) e.2)) (turns xs), e.1, (call xs h, e.0)))
 
 -- ---- close
 abbrev pub ClosesTo : List Sample → OpenDocket → Result ClosedDocket Kept → Type 0
@@ -61,17 +62,17 @@ close_samples t d xs h leads = subst (λ ys. t ≡ over ys t) (sym (marked_sampl
 
 pub closed_on : (t : List Sample) (d : OpenDocket) (k : ClosedDocket) → ClosesTo t d (Ok k) → (a : Accepted) (h : History (length t) a) → LeadsOpen h d t → Took (length t) a h closing t (Some (ClosedOn k.disturbance)) (Closed k) t
 closed_on t d k says = at_open t d (λ a h. Took (length t) a h closing t (Some (ClosedOn k.disturbance)) (Closed k) t)
-    (λ xs h leads. let e = says xs h leads in (close_record xs, (ap told_closed e.1, refl), close_samples t d xs h leads, (close xs h, e.0)))
+    (λ xs h leads. let e = says xs h leads in (close_record xs, (ap (λ x. told (close_brings x)) e.1, refl), close_samples t d xs h leads, (close xs h, e.0)))
 
 pub kept_open : (t : List Sample) (d : OpenDocket) (k : Kept) → ClosesTo t d (Err k) → (a : Accepted) (h : History (length t) a) → LeadsOpen h d t → Took (length t) a h closing t (Some (Refused k.refusal)) (Open k.docket) t
 kept_open t d k says = at_open t d (λ a h. Took (length t) a h closing t (Some (Refused k.refusal)) (Open k.docket) t)
-    (λ xs h leads. let e = says xs h leads in (close_record xs, (ap told_closed e.1, refl), close_samples t d xs h leads, (close xs h, e.0)))
+    (λ xs h leads. let e = says xs h leads in (close_record xs, (ap (λ x. told (close_brings x)) e.1, refl), close_samples t d xs h leads, (close xs h, e.0)))
 
 -- ---- deliver and reopen
 pub delivered : (t : List Sample) (d : ClosedDocket) (q : Sought) (r : Result Report Refusal) → ((xs : List Sample) (h : History (length t) (closed xs)) → LeadsClosed h d t → LeadsClosed (deliver xs q h) d t × Delivered xs q r)
-    → (answer : Answer) → answer ≡ reported r → (a : Accepted) (h : History (length t) a) → LeadsClosed h d t → Took (length t) a h (delivering q) t (Some answer) (Closed d) t
-delivered t d q r says answer told = at_closed t d (λ a h. Took (length t) a h (delivering q) t (Some answer) (Closed d) t)
-    (λ xs h leads. let e = says xs h leads in (closed xs, ((r, told, e.1), refl), closed_samples t d xs h leads, (deliver xs q h, e.0)))
+    → (answer : Answer) → answer ≡ told (reported r) → (a : Accepted) (h : History (length t) a) → LeadsClosed h d t → Took (length t) a h (delivering q) t (Some answer) (Closed d) t
+delivered t d q r says answer is = at_closed t d (λ a h. Took (length t) a h (delivering q) t (Some answer) (Closed d) t)
+    (λ xs h leads. let e = says xs h leads in (closed xs, ((r, is, e.1), refl), closed_samples t d xs h leads, (deliver xs q h, e.0)))
 
 pub reopened : (t : List Sample) (d : ClosedDocket) (o : OpenDocket) → ((places : ℕ) (table xs : List Sample) (h : History places (closed xs)) → LeadsClosed h d table → LeadsOpen (reopen xs h) o table)
     → (a : Accepted) (h : History (length t) a) → LeadsClosed h d t → Took (length t) a h reopening t (Some Reopened) (Open o) t

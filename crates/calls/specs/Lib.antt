@@ -1,5 +1,8 @@
+pub mod Answers
 pub mod Calls
 pub mod Turns
 pub mod States
 pub mod Runs
+pub mod Promises
+pub mod Laws
 pub mod Outcomes

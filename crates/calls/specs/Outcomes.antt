@@ -9,12 +9,11 @@ use Rattle.docket.specs.declared.docket.ClosedDocket.{ClosedDocket}
 use Rattle.docket.specs.declared.docket.Kept.{Kept}
 use Rattle.docket.specs.Deliveries.{DeliversFrom}
 use Rattle.docket.specs.Dockets.{PutsReading, LoadsMembers, AmendsReading, closes, count_after}
-use Rattle.calls.specs.declared.answer.Answer.TheVariants as answer
 use Rattle.calls.specs.declared.turn.State.{State}
 use Rattle.calls.specs.declared.turn.State.TheVariants.{Open, Closed}
 use Rattle.calls.specs.declared.turn.Turn.{Turn}
+use Rattle.calls.specs.Answers.{told, counted, closed_on, reported, reopened}
 use Rattle.calls.specs.Calls.{Meaning, put, load, amend, strike, close, deliver, reopen}
-use Rattle.calls.specs.Turns.{counted, reported}
 
 -- an open docket with so many samples
 abbrev pub open_with : ℕ → State
@@ -22,16 +21,16 @@ open_with count = Open (record { count = count })
 
 -- a call is answered with a count or a refusal: the docket is open with the count, or with the old one
 abbrev pub counting : Result ℕ Refusal → ℕ → Turn
-counting r old = record { state = open_with (count_after r old); answer = Some (counted r) }
+counting r old = record { state = open_with (count_after r old); answer = Some (told (counted r)) }
 
 -- a close is answered with the disturbance and a closed docket, or with the refusal and the open one
 abbrev pub closing : Result ClosedDocket Kept → Turn
-closing (Ok docket) = record { state = Closed docket; answer = Some (answer.Closed docket.disturbance) }
-closing (Err k) = record { state = Open k.docket; answer = Some (answer.Refused k.refusal) }
+closing (Ok docket) = record { state = Closed docket; answer = Some (told (closed_on (Ok docket.disturbance))) }
+closing (Err k) = record { state = Open k.docket; answer = Some (told (closed_on (Err k.refusal))) }
 
 -- a delivery is answered with a report or a refusal, and the docket stays
 abbrev pub delivering : Result Report Refusal → ClosedDocket → Turn
-delivering r docket = record { state = Closed docket; answer = Some (reported r) }
+delivering r docket = record { state = Closed docket; answer = Some (told (reported r)) }
 
 -- a call that a state does not offer has no answer, and the docket stays
 abbrev pub unanswered : State → Turn
@@ -52,4 +51,4 @@ Does (Closed docket) table (amend i r) turn left = (turn ≡ unanswered (Closed 
 Does (Closed docket) table (strike i) turn left = (turn ≡ unanswered (Closed docket)) × (left ≡ table)
 Does (Closed docket) table close turn left = (turn ≡ unanswered (Closed docket)) × (left ≡ table)
 Does (Closed docket) table (deliver q) turn left = (o : Result Report Refusal) × DeliversFrom docket.count docket.disturbance table q o × (turn ≡ delivering o docket) × (left ≡ table)
-Does (Closed docket) table reopen turn left = (turn ≡ record { state = open_with docket.count; answer = Some answer.Reopened }) × (left ≡ table)
+Does (Closed docket) table reopen turn left = (turn ≡ record { state = open_with docket.count; answer = Some (told reopened) }) × (left ≡ table)

@@ -1,6 +1,6 @@
 // What a call answers.
 ghost use Rattle.std.specs.Prelude.{◌≡◌};
-ghost use Rattle.calls.specs.Turns.{counted, reported};
+ghost use Rattle.calls.specs.Answers.{told, counted, reported};
 
 use disturbance::disturbance::Disturbance;
 use figure::report::Report;
@@ -18,7 +18,7 @@ pub enum Answer {
 }
 
 impl From<Result<usize, Refusal>> for Answer {
-    ghost from_gives = { λ r answer. answer ≡ counted r };
+    ghost from_gives = { λ r answer. answer ≡ told (counted r) };
 
     fn from(outcome: Result<usize, Refusal>) -> Answer {
         match outcome {
@@ -29,7 +29,7 @@ impl From<Result<usize, Refusal>> for Answer {
 }
 
 impl From<Result<Report, Refusal>> for Answer {
-    ghost from_gives = { λ r answer. answer ≡ reported r };
+    ghost from_gives = { λ r answer. answer ≡ told (reported r) };
 
     fn from(outcome: Result<Report, Refusal>) -> Answer {
         match outcome {

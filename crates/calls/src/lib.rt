@@ -3,5 +3,6 @@
 
 pub mod answer;
 pub mod call;
+pub mod laws;
 pub mod run;
 pub mod turn;

@@ -1,9 +1,10 @@
 // A list of calls on one docket and its table, from new.
-ghost use Rattle.std.specs.Prelude.{◌≡◌, ℕ, List, map, Result as Either};
+ghost use Rattle.std.specs.Prelude.{◌≡◌, ℕ, List, length, map, Result as Either};
 ghost use Rattle.recording.specs.declared.sample.Sample.{Sample as Taken};
 ghost use Rattle.calls.specs.declared.answer.Answer.{Answer as Told};
 ghost use Rattle.calls.specs.declared.run.NotOffered.{NotOffered as Stopped};
 ghost use Rattle.calls.specs.Calls.{meaning_of};
+ghost use Rattle.calls.specs.Promises.{EveryDelivery};
 ghost use Rattle.calls.specs.Runs.{Ran};
 
 use crate::answer::Answer;
@@ -27,8 +28,16 @@ pub fn run<R: Recording, P: ResponseRule>(
     calls: &[Call<'_, R, P>],
     answers: &mut [Answer],
 ) -> Result<usize, NotOffered>
-    ensures answers { Ran table.old (map (meaning_of R.meaning P.ResponseRule.triggers P.ResponseRule.weighs) calls.now) answers.old result table.new answers.new }
-    ensures only { (r : Either ℕ Stopped) (left : List Taken) (filled : List Told) → Ran table.old (map (meaning_of R.meaning P.ResponseRule.triggers P.ResponseRule.weighs) calls.now) answers.old r left filled → (r ≡ result) × (left ≡ table.new) × (filled ≡ answers.new) }
+    ensures answers_as_the_accepted_record { Ran table.old
+        (map (meaning_of R.meaning P.ResponseRule.triggers P.ResponseRule.weighs) calls.now)
+        answers.old result table.new answers.new }
+    ensures every_delivery_is_that_of_its_record { EveryDelivery (length table.old)
+        (map (meaning_of R.meaning P.ResponseRule.triggers P.ResponseRule.weighs) calls.now) result answers.new }
+    ensures no_other_answer { (r : Either ℕ Stopped) (left : List Taken) (filled : List Told)
+        → Ran table.old
+        (map (meaning_of R.meaning P.ResponseRule.triggers P.ResponseRule.weighs) calls.now)
+        answers.old r left filled
+        → (r ≡ result) × (left ≡ table.new) × (filled ≡ answers.new) }
 {
     let mut state = State::Open(OpenDocket::new());
     let count = calls.len().min(answers.len());

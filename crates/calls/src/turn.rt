@@ -30,8 +30,10 @@ fn open_turn<R: Recording, P: ResponseRule>(
     table: &mut [Sample],
     call: Call<'_, R, P>,
 ) -> Turn
-    ensures history { TakesTurn (State.Open docket) table.old (meaning_of R.meaning P.ResponseRule.triggers P.ResponseRule.weighs call.entry) result table.new }
-    ensures outcome { Does (State.Open docket) table.old (meaning_of R.meaning P.ResponseRule.triggers P.ResponseRule.weighs call.entry) result table.new }
+    ensures answers_as_the_accepted_record { TakesTurn (State.Open docket) table.old
+        (meaning_of R.meaning P.ResponseRule.triggers P.ResponseRule.weighs call.entry) result table.new }
+    ensures answers_as_the_docket_and_its_table { Does (State.Open docket) table.old
+        (meaning_of R.meaning P.ResponseRule.triggers P.ResponseRule.weighs call.entry) result table.new }
 {
     let answer = match call {
         Call::Put(reading) => Some(docket.put(table, reading).into()),
@@ -49,8 +51,8 @@ fn open_turn<R: Recording, P: ResponseRule>(
 
 // Closing an open docket.
 fn close_turn(docket: OpenDocket, table: &[Sample]) -> Turn
-    ensures history { TakesTurn (State.Open docket) table.now close result table.now }
-    ensures outcome { Does (State.Open docket) table.now close result table.now }
+    ensures answers_as_the_accepted_record { TakesTurn (State.Open docket) table.now close result table.now }
+    ensures answers_as_the_docket_and_its_table { Does (State.Open docket) table.now close result table.now }
 {
     match docket.close(table) {
         Ok(docket) => {
@@ -73,8 +75,10 @@ fn closed_turn<R: Recording, P: ResponseRule>(
     table: &[Sample],
     call: Call<'_, R, P>,
 ) -> Turn
-    ensures history { TakesTurn (State.Closed docket) table.now (meaning_of R.meaning P.ResponseRule.triggers P.ResponseRule.weighs call.entry) result table.now }
-    ensures outcome { Does (State.Closed docket) table.now (meaning_of R.meaning P.ResponseRule.triggers P.ResponseRule.weighs call.entry) result table.now }
+    ensures answers_as_the_accepted_record { TakesTurn (State.Closed docket) table.now
+        (meaning_of R.meaning P.ResponseRule.triggers P.ResponseRule.weighs call.entry) result table.now }
+    ensures answers_as_the_docket_and_its_table { Does (State.Closed docket) table.now
+        (meaning_of R.meaning P.ResponseRule.triggers P.ResponseRule.weighs call.entry) result table.now }
 {
     let answer = match call {
         Call::Deliver(request) => Some(docket.deliver(table, request).into()),
@@ -99,8 +103,10 @@ impl State {
         table: &mut [Sample],
         call: Call<'_, R, P>,
     ) -> Turn
-        ensures history { TakesTurn self table.old (meaning_of R.meaning P.ResponseRule.triggers P.ResponseRule.weighs call.entry) result table.new }
-        ensures outcome { Does self table.old (meaning_of R.meaning P.ResponseRule.triggers P.ResponseRule.weighs call.entry) result table.new }
+        ensures answers_as_the_accepted_record { TakesTurn self table.old
+            (meaning_of R.meaning P.ResponseRule.triggers P.ResponseRule.weighs call.entry) result table.new }
+        ensures answers_as_the_docket_and_its_table { Does self table.old
+            (meaning_of R.meaning P.ResponseRule.triggers P.ResponseRule.weighs call.entry) result table.new }
     {
         match self {
             State::Open(docket) => open_turn(docket, table, call),

@@ -1,13 +1,22 @@
 -- The points of a record place by place, and in order of their times.
-use Rattle.std.proofs.Common.{◌≡◌, ℕ, ◌+◌, ◌<◌, ◌≤◌, List, [], ◌∷◌, length, get_or, drop, sym, ap, ◌∙◌, subst, arith}
+use Rattle.std.proofs.Common.{◌≡◌, ℕ, ◌+◌, ◌<◌, ◌≤◌, List, [], ◌∷◌, length, get_or, drop, pos, sym, ap, ◌∙◌, subst, arith}
 use Rattle.std.specs.List.{AllByRecursion}
 use Rattle.std.proofs.lemmas.List.{length-map, get_or-map, drop_more}
 use Rattle.std.proofs.ByRecursion.{All-get_or, All-weaker}
 use Rattle.recording.specs.declared.sample.Sample.{Sample}
 use Rattle.disturbance.specs.declared.direction.Direction.{Direction}
 use Rattle.figure.specs.declared.point.Point.{Point}
-use Rattle.figure.specs.Points.{turned, course, origin, After}
-use Rattle.delivery.specs.Limits.{BeginsBy}
+use Rattle.figure.specs.Points.{turned, course, After, Rises}
+use Rattle.delivery.specs.Limits.{Tame, BeginsBy}
+
+-- points of a sound record
+pub record Usable (points : List Point) : Type 0 where
+  pub tame : AllByRecursion Tame points
+  pub rises : Rises points
+
+-- where no point is
+abbrev pub origin : Point
+origin = record { time = 0; dip = pos 0; push = pos 0 }
 
 -- ---- the point p is the sample at place i, turned
 module _ (d : Direction) (xs : List Sample) (i : ℕ) (lt : i < length xs) (x : Sample) (p : Point) (e : p ≡ turned d (get_or xs i x)) where

@@ -6,9 +6,9 @@ use Rattle.std.proofs.lemmas.List.{get_or_default}
 use Rattle.std.proofs.lemmas.Bool.{cases_lt}
 use Rattle.timeline.specs.declared.target.Target.{Target}
 use Rattle.figure.specs.declared.point.Point.{Point}
-use Rattle.figure.specs.Points.{origin}
 use Rattle.figure.specs.Defects.{Missed, MissedByTargets}
 use Rattle.delivery.specs.Limits.{BeginsBy, RisingTargets, no_target}
+use Rattle.delivery.proofs.Courses.{origin}
 use Rattle.delivery.proofs.Ends.{all_up}
 
 -- targets that rise and do not miss a time begin by it

@@ -11,8 +11,9 @@ use Rattle.disturbance.specs.Direction.{dip}
 use Rattle.disturbance.specs.Trace.{Within as Limits, Sound as SoundTrace}
 use Rattle.figure.specs.Points.{turned, course}
 use Rattle.figure.proofs.Rising.{rises_course}
-use Rattle.delivery.specs.Limits.{Tame, Usable}
+use Rattle.delivery.specs.Limits.{Tame}
 use Rattle.delivery.proofs.Basing.{turned_within}
+use Rattle.delivery.proofs.Courses.{Usable}
 
 -- ---- points
 dip_within : (d : Direction) (f : ℕ) → 47000 ≤ f → f ≤ 52000 → Within 3000 (dip d f)

@@ -15,9 +15,9 @@ use Rattle.figure.specs.Points.{turned, course}
 use Rattle.figure.specs.Steps.{Weights, to_half_up, compensated}
 use Rattle.response.specs.declared.group.Window.{Window}
 use Rattle.delivery.specs.declared.basis.Basis.{Basis}
-use Rattle.delivery.specs.Limits.{Tame, Usable, BeginsBy}
+use Rattle.delivery.specs.Limits.{Tame, BeginsBy}
 use Rattle.delivery.specs.Areas.{area_of, compensated_z}
-use Rattle.delivery.proofs.Courses.{opens, passed_all}
+use Rattle.delivery.proofs.Courses.{Usable, opens, passed_all}
 use Rattle.delivery.proofs.Held.{Held, held, HeldSum, held_sum}
 use Rattle.delivery.proofs.Summing.{strip_within}
 use Rattle.delivery.proofs.Weighing.{based, compensated_within}

@@ -1,21 +1,14 @@
 -- Limits of points, targets and windows, and of what is worked out from them.
 use Rattle.std.specs.Prelude.{ℕ, ◌+◌, ◌<◌, ◌≤◌, List, [], ◌∷◌, length, pos, slice_index_or}
-use Rattle.std.specs.List.{AllByRecursion}
 use Rattle.exact.specs.Limits.{Within}
 use Rattle.timeline.specs.declared.target.Target.{Target}
 use Rattle.figure.specs.declared.point.Point.{Point}
-use Rattle.figure.specs.Points.{Rises}
 
 -- a point of a sample within its limits
 pub record Tame (p : Point) : Type 0 where
   pub time_most : p.time ≤ 1200000
   pub dip_within : Within 3000 p.dip
   pub push_within : Within 1000000000 p.push
-
--- points of a sound record
-pub record Usable (points : List Point) : Type 0 where
-  pub tame : AllByRecursion Tame points
-  pub rises : Rises points
 
 -- a target within its limits
 pub record Aimed (g : Target) : Type 0 where

@@ -48,7 +48,8 @@ fn trajectory(targets: Targets, direction: Direction, time: u32) -> i128
 // The push of a base point: raised where the trajectory rises to the disturbance.
 fn base_push(point: Point, targets: Targets, disturbance: Disturbance) -> i128
     requires small { Within 1000000000 point.push }
-    requires begins { (BeginsBy (λ g. g.time) disturbance.time targets.all.now) × (BeginsBy (λ g. g.time) point.time targets.all.now) }
+    requires begins { (BeginsBy (λ g. g.time) disturbance.time targets.all.now)
+        × (BeginsBy (λ g. g.time) point.time targets.all.now) }
     ensures is { Is (base_push to_half_up disturbance.direction targets.entry.all.now disturbance.time point) result 1 }
     ensures within { Within 300000000000 result }
 {
@@ -67,7 +68,9 @@ pub(crate) fn basis(footing: Footing, targets: Targets) -> Basis
     requires some { points_on footing ≡ [] → ⊥ }
     requires reached { MissedByTargets targets.all.now footing.disturbance.time (points_on footing) → ⊥ }
     ensures time { result.disturbance ≡ footing.entry.disturbance.time }
-    ensures base { whole result.base ≡ base_of to_half_up footing.entry.disturbance.direction targets.entry.all.now footing.entry.disturbance.time footing.entry.window (course footing.entry.disturbance.direction footing.entry.trace.samples.now) }
+    ensures base { whole result.base ≡ base_of to_half_up footing.entry.disturbance.direction targets.entry.all.now
+        footing.entry.disturbance.time footing.entry.window
+        (course footing.entry.disturbance.direction footing.entry.trace.samples.now) }
 {
     let mut sum: i128 = 0;
     let mut count: u64 = 0;

@@ -39,7 +39,8 @@ pub(crate) fn early_defect<'a>(
     count: usize,
     terms: Terms,
 ) -> Result<Targets<'a>, Reason>
-    ensures defect { FirstFault (early_defects footing.entry.trace.samples.now footing.entry.disturbance footing.entry.window table.now count terms.side terms.enabled) (result_err result) }
+    ensures defect { FirstFault (early_defects footing.entry.trace.samples.now footing.entry.disturbance
+        footing.entry.window table.now count terms.side terms.enabled) (result_err result) }
     ensures counted { IfOk result (λ targets. targets.all.now ≡ take count table.now) }
 {
     if is_bad_amount(terms.enabled) {
@@ -61,7 +62,8 @@ pub(crate) fn early_defect<'a>(
 // Whether one of two windows that are not empty begins before the first sample or ends after the
 // last.
 fn is_one_beyond(trace: Trace, spans: Spans) -> bool
-    ensures { Decides result (Beyond trace.entry.samples.now spans.first ⊎ Beyond trace.entry.samples.now spans.second) }
+    ensures { Decides result (Beyond trace.entry.samples.now spans.first
+        ⊎ Beyond trace.entry.samples.now spans.second) }
 {
     is_beyond(trace, spans.first) || is_beyond(trace, spans.second)
 }

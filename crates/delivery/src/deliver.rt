@@ -49,7 +49,8 @@ fn deliver_over<R: ResponseRule>(
     terms: Terms,
 ) -> Result<Report, Refusal>
     requires { SoundRow terms.row }
-    ensures { Delivers (asked_by trace.entry.samples.now disturbance settings.now (R.ResponseRule.triggers rule.now) (R.ResponseRule.weighs rule.now) targets.now count terms.side terms.row terms.enabled) result }
+    ensures { Delivers (asked_by trace.entry.samples.now disturbance settings.now (R.ResponseRule.triggers rule.now)
+        (R.ResponseRule.weighs rule.now) targets.now count terms.side terms.row terms.enabled) result }
 {
     let recovered = recovery(trace, disturbance);
     let trigger = rule.trigger();
@@ -83,9 +84,15 @@ pub fn deliver<R: ResponseRule>(
     count: usize,
     claim: Claim,
 ) -> Result<Report, Refusal>
-    ensures answer { Delivers (asked_for trace.entry.samples.now disturbance settings.now (R.ResponseRule.triggers rule.now) (R.ResponseRule.weighs rule.now) targets.now count claim) result }
-    ensures only { (s : Answer Reported Refused) → Delivers (asked_for trace.entry.samples.now disturbance settings.now (R.ResponseRule.triggers rule.now) (R.ResponseRule.weighs rule.now) targets.now count claim) s → s ≡ result }
-    ensures faithful { IfOk result (λ report. Faithful (asked_for trace.entry.samples.now disturbance settings.now (R.ResponseRule.triggers rule.now) (R.ResponseRule.weighs rule.now) targets.now count claim) report) }
+    ensures the_report_of_the_steps_or_the_first_defect { Delivers
+        (asked_for trace.entry.samples.now disturbance settings.now
+        (R.ResponseRule.triggers rule.now) (R.ResponseRule.weighs rule.now) targets.now count claim) result }
+    ensures no_other_answer { (s : Answer Reported Refused) → Delivers
+        (asked_for trace.entry.samples.now disturbance settings.now
+        (R.ResponseRule.triggers rule.now) (R.ResponseRule.weighs rule.now) targets.now count claim) s → s ≡ result }
+    ensures less_than_a_watt_from_exact_and_fair { IfOk result (λ report. Faithful
+        (asked_for trace.entry.samples.now disturbance settings.now
+        (R.ResponseRule.triggers rule.now) (R.ResponseRule.weighs rule.now) targets.now count claim) report) }
 {
     let service = claim.service;
     let terms = Terms {

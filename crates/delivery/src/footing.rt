@@ -43,7 +43,8 @@ impl Footing<'_> {
 
     // Whether a point counts for the base and is at a time that the targets miss.
     fn misses_point(self, targets: Targets, point: Point) -> bool
-        ensures { Decides result ((is_base self.entry.disturbance.time self.entry.window point ≡ true) × ((0 < length targets.entry.all.now) × (Missed targets.entry.all.now point.time))) }
+        ensures { Decides result ((is_base self.entry.disturbance.time self.entry.window point ≡ true)
+            × ((0 < length targets.entry.all.now) × (Missed targets.entry.all.now point.time))) }
     {
         self.counts(point) && targets.miss(point.time)
     }
@@ -51,7 +52,8 @@ impl Footing<'_> {
     // Whether one of the samples counts for the base and is at a time that the targets miss. One pass
     // over them.
     fn misses_one(self, targets: Targets) -> bool
-        ensures { Decides result ((0 < length targets.entry.all.now) × (OneMissed targets.entry.all.now (points_on self.entry))) }
+        ensures { Decides result ((0 < length targets.entry.all.now)
+            × (OneMissed targets.entry.all.now (points_on self.entry))) }
     {
         let direction = self.disturbance.direction;
         let samples = self.trace.samples;

@@ -32,7 +32,8 @@ fn is_gap(a: Sample, b: Sample, spans: Spans) -> bool
 // Whether neighbouring samples in one of two windows are further apart than the widest gap. One
 // pass over the samples.
 pub(crate) fn is_gapped(samples: &[Sample], spans: Spans) -> bool
-    ensures { Decides result (Gapped samples.now spans.widest_gap spans.first ⊎ Gapped samples.now spans.widest_gap spans.second) }
+    ensures { Decides result (Gapped samples.now spans.widest_gap spans.first
+        ⊎ Gapped samples.now spans.widest_gap spans.second) }
 {
     samples
         .windows(2)

@@ -60,7 +60,8 @@ pub(crate) fn is_empty(span: Span) -> bool
 
 // A window whose ends are times of the clock.
 pub(crate) fn on_clock(span: Span) -> Window
-    requires { (pos 0 ≤ℤ span.start) × ((span.start ≤ℤ pos 1200000) × ((pos 0 ≤ℤ span.end) × (span.end ≤ℤ pos 1200000))) }
+    requires { (pos 0 ≤ℤ span.start) × ((span.start ≤ℤ pos 1200000)
+        × ((pos 0 ≤ℤ span.end) × (span.end ≤ℤ pos 1200000))) }
     ensures { result ≡ on_clock span }
 {
     Window {

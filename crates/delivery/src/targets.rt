@@ -19,7 +19,9 @@ pub(crate) struct Targets<'a> {
 
 // The counted entries of a table, if it holds as many and they are in order.
 pub(crate) fn counted(table: &[Target], count: usize) -> Result<Targets<'_>, Reason>
-    ensures { MatchResult result (λ targets. (Sound kind count table.now) × (targets.all.now ≡ take count table.now)) (λ why. (BadTargets count table.now) × (why ≡ Reason.OtherTargets)) }
+    ensures { MatchResult result
+        (λ targets. (Sound kind count table.now) × (targets.all.now ≡ take count table.now))
+        (λ why. (BadTargets count table.now) × (why ≡ Reason.OtherTargets)) }
 {
     check_table(table, count).map_err(|_| Reason::OtherTargets)?;
     Ok(Targets {

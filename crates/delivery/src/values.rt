@@ -32,9 +32,13 @@ pub(crate) fn window_values<R: ResponseRule>(
     rule: &R,
 ) -> Values
     requires times { (spans.first.multiplier ≤ 2) × (spans.second.multiplier ≤ 2) }
-    requires stand { ((Empty spans.first → ⊥)) × (((Beyond trace.samples.now spans.first → ⊥)) × ((Beyond trace.samples.now spans.second → ⊥))) }
-    ensures first { whole result.first ≡ value_of to_half_up (response_from (R.ResponseRule.weighs rule.now) basis) (used_points recovery (course direction trace.entry.samples.now)) (on_clock spans.first) }
-    ensures second { or_none whole result.second ≡ or_none (value_of to_half_up (response_from (R.ResponseRule.weighs rule.now) basis) (used_points recovery (course direction trace.entry.samples.now))) (unless_empty spans.second) }
+    requires stand { ((Empty spans.first → ⊥)) × (((Beyond trace.samples.now spans.first → ⊥))
+        × ((Beyond trace.samples.now spans.second → ⊥))) }
+    ensures first { whole result.first ≡ value_of to_half_up (response_from (R.ResponseRule.weighs rule.now) basis)
+        (used_points recovery (course direction trace.entry.samples.now)) (on_clock spans.first) }
+    ensures second { or_none whole result.second ≡ or_none (value_of to_half_up
+        (response_from (R.ResponseRule.weighs rule.now) basis)
+        (used_points recovery (course direction trace.entry.samples.now))) (unless_empty spans.second) }
 {
     let before = used(trace, recovery);
     let first = window_value(before, direction, on_clock(spans.first), basis, rule);

@@ -29,7 +29,8 @@ fn area<R: ResponseRule>(
     rule: &R,
 ) -> i128
     requires { (Proper window) × (BeginsBy (λ p. p.time) window.start (course direction trace.samples.now)) }
-    ensures is { result ≡ area_of (compensated_z (R.ResponseRule.weighs rule.now) basis.disturbance basis.base) (course direction trace.entry.samples.now) window.start window.end }
+    ensures is { result ≡ area_of (compensated_z (R.ResponseRule.weighs rule.now) basis.disturbance basis.base)
+        (course direction trace.entry.samples.now) window.start window.end }
     ensures within { Within (2 ^ 43 * (window.end - window.start)) result }
 {
     let mut t1: u32 = 0;
@@ -65,7 +66,8 @@ pub(crate) fn window_value<R: ResponseRule>(
     rule: &R,
 ) -> i64
     requires { (Proper window) × (BeginsBy (λ p. p.time) window.start (course direction trace.samples.now)) }
-    ensures { whole result ≡ value_of to_half_up (response_from (R.ResponseRule.weighs rule.now) basis) (course direction trace.entry.samples.now) window }
+    ensures { whole result ≡ value_of to_half_up (response_from (R.ResponseRule.weighs rule.now) basis)
+        (course direction trace.entry.samples.now) window }
 {
     let sum = area(trace, direction, window, basis, rule);
     let length = window.end - window.start;

@@ -8,11 +8,11 @@ use Rattle.disturbance.specs.declared.direction.Direction.{Direction}
 use Rattle.disturbance.specs.declared.direction.Direction.TheVariants.{Low, High}
 use Rattle.disturbance.specs.declared.stretch.Stretch.{Stretch}
 use Rattle.disturbance.specs.Band.{lowest, highest, Inside, Beyond, Outside}
-use Rattle.disturbance.specs.Passing.{Passes, ReachedBetween, PassedBetween}
+use Rattle.disturbance.specs.Passing.{Passes, PassedBetween}
 use Rattle.disturbance.specs.Disturbance.{LeavesBy, leaves_to, leaving_time, timed, leaving}
 use Rattle.disturbance.proofs.Heights.{Between, rest_times, under_sum, sum_under, over_sum, sum_over}
 use Rattle.disturbance.proofs.Quotients.{past_edge}
-use Rattle.disturbance.proofs.Scans.{between_as}
+use Rattle.disturbance.proofs.Scans.{ReachedBetween, between_as}
 
 -- for times p and q that make up n
 module _ (f g p q n : ℕ) (e : n ≡ p + q) where
@@ -106,7 +106,7 @@ module _ (d : Direction) (a b : Sample) (w : Way d a b) where
 
 -- what is worked out for two neighbours
 module _ (a b : Sample) where
-  abbrev Leads : Option Direction → Type 0
+  abbrev pub Leads : Option Direction → Type 0
   Leads o = MatchOption o (Inside a → Inside b) (λ d. Inside a × Beyond d b)
 
   outside_side : Inside a → Leads (cond (ltb b.frequency lowest) (Some Low) (cond (ltb highest b.frequency) (Some High) None))
@@ -114,7 +114,7 @@ module _ (a b : Sample) where
       cond_both (ltb b.frequency lowest) (Some Low) (cond (ltb highest b.frequency) (Some High) None) Leads (λ e. (i, ltb-true _ _ e))
       (λ e. cond_both (ltb highest b.frequency) (Some High) None Leads (λ g. (i, ltb-true _ _ g)) (λ g _. (ltb-false _ _ e, ltb-false _ _ g)))
 
-  leads : Leads (leaves_to a b)
+  pub leads : Leads (leaves_to a b)
   leads =
       cond_both (leb lowest a.frequency && leb a.frequency highest) (cond (ltb b.frequency lowest) (Some Low) (cond (ltb highest b.frequency) (Some High) None)) None Leads
       (λ e. let both = and_parts _ _ e in outside_side (leb-true _ _ both.0, leb-true _ _ both.1))

@@ -7,3 +7,4 @@ pub mod Quotients
 pub mod Scans
 pub mod Stretches
 pub mod Times
+pub mod Images

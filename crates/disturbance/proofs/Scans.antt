@@ -7,7 +7,8 @@ use Rattle.recording.specs.declared.sample.Sample.{Sample}
 use Rattle.disturbance.specs.declared.direction.Direction.{Direction}
 use Rattle.disturbance.specs.Trace.{at, Sound}
 use Rattle.disturbance.specs.Line.{LineAt}
-use Rattle.disturbance.specs.Passing.{Passes, ReachedBetween, PassedBetween, PassedFrom}
+use Rattle.disturbance.specs.Crossing.{Reached}
+use Rattle.disturbance.specs.Passing.{height, goal, Passes, PassedBetween, PassedFrom}
 use Rattle.disturbance.specs.declared.stretch.Stretch.{Stretch}
 use Rattle.disturbance.specs.Stretches.{FirstFound}
 use Rattle.disturbance.proofs.Times.{time_up}
@@ -28,7 +29,11 @@ module _ (xs : List Sample) (s : Sound xs) (P : Sample → Sample → ℕ → Ty
   pub line_here : (u k : ℕ) → LineAt P xs u → k < length xs → (at xs (k - 1)).time < u → u ≤ (at xs k).time → P (at xs (k - 1)) (at xs k) u
   line_here u k l lt after until = subst (λ n. P (at xs (n - 1)) (at xs n) u) (line_place u k l lt after until) l.holds
 
--- between two samples
+-- between two samples: the line, as a slope of heights, has reached the goal at the time u
+abbrev pub ReachedBetween : Direction → ℕ → Bool → Sample → Sample → ℕ → ℕ → Type 0
+ReachedBetween d level above a b from u = Reached a.time (height d a.frequency) b.time (height d b.frequency) (goal level above (b.time - a.time)) from u
+
+-- the first time that it has is the first at which its height has passed the level
 pub between_as : (d : Direction) (level : ℕ) (above : Bool) (a b : Sample) (from start : ℕ) → start ≡ max from (a.time + 1)
     → (o : Option ℕ) → FirstOrNone (ReachedBetween d level above a b start) o → FirstOrNone (PassedBetween d level above a b from) o
 between_as d level above a b from start is o h =

@@ -8,4 +8,5 @@ pub mod Recovery
 pub mod Stretches
 pub mod Trace
 pub mod Trigger
+pub mod Turning
 pub mod Worked

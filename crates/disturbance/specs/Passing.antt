@@ -5,7 +5,6 @@ use Rattle.disturbance.specs.declared.direction.Direction.{Direction}
 use Rattle.disturbance.specs.declared.direction.Direction.TheVariants.{Low, High}
 use Rattle.disturbance.specs.declared.passing.Mark.{Mark}
 use Rattle.disturbance.specs.declared.passing.Mark.TheVariants.{Reach, Exceed}
-use Rattle.disturbance.specs.Crossing.{Reached}
 use Rattle.disturbance.specs.Line.{LineAt}
 
 -- the dip of a frequency, raised by nominal
@@ -30,10 +29,6 @@ goal level above span = level * span + cond above 1 0
 -- the height of the line from a to b has passed the level at the time t
 abbrev pub Passes : Direction → ℕ → Bool → Sample → Sample → ℕ → Type 0
 Passes d level above a b t = goal level above (b.time - a.time) ≤ height d a.frequency * (b.time - t) + height d b.frequency * (t - a.time)
-
--- it has passed at the time u, of from to sample b
-abbrev pub ReachedBetween : Direction → ℕ → Bool → Sample → Sample → ℕ → ℕ → Type 0
-ReachedBetween d level above a b from u = Reached a.time (height d a.frequency) b.time (height d b.frequency) (goal level above (b.time - a.time)) from u
 
 -- the height of the line has passed the level at the time t, after a and not after b, not before from
 abbrev pub PassedBetween : Direction → ℕ → Bool → Sample → Sample → ℕ → ℕ → Type 0

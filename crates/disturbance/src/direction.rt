@@ -40,7 +40,7 @@ impl fmt::Display for Direction {
 // How far a frequency lies from nominal, in mHz, counted on the side of the disturbance. Wide
 // enough for every frequency.
 pub fn dip(direction: Direction, frequency: u32) -> i64
-    ensures { result ≡ dip_of direction frequency }
+    ensures dip_on_the_side_of_the_disturbance { result ≡ dip_of direction frequency }
 {
     match direction {
         Direction::Low => NOMINAL as i64 - frequency as i64,
@@ -50,7 +50,7 @@ pub fn dip(direction: Direction, frequency: u32) -> i64
 
 // The power that works against the disturbance, in W. Wide enough for every power.
 pub fn push(direction: Direction, power: i32) -> i64
-    ensures { result ≡ push_of direction power }
+    ensures power_against_the_disturbance { result ≡ push_of direction power }
 {
     match direction {
         Direction::Low => power as i64,

@@ -22,7 +22,8 @@ impl Stretch {
     // The first whole millisecond at which the line to the later sample is past the edge of the
     // band. The band reaches as far to either side, so its edge has one height.
     fn first_past_edge(self, direction: Direction) -> Option<u32>
-        ensures { FirstOrNone (PassedBetween direction highest true self.before self.after (self.before.time + 1)) result }
+        ensures { FirstOrNone (PassedBetween direction highest true self.before self.after
+            (self.before.time + 1)) result }
     {
         self.first_passed(Search {
             side: direction,
@@ -47,13 +48,13 @@ impl Stretch {
 
 // The disturbance: at the first place where a sample inside is followed by one outside.
 pub fn find_disturbance(trace: Trace) -> Option<Disturbance>
-    ensures answers { Answers trace.entry.samples.now result }
-    ensures is { result ≡ disturbance_of trace.entry.samples.now }
+    ensures first_departure_from_the_band_or_none { Answers trace.entry.samples.now result }
+    ensures as_computed_from_the_samples { result ≡ disturbance_of trace.entry.samples.now }
 {
     first_found(trace, |stretch| stretch.leaving())
 }
 
 // What is answered for sound samples is the only answer, and can be worked out from them.
 pub fn disturbance_laws()
-    ensures { DisturbanceLaws }
+    ensures one_disturbance_and_it_can_be_worked_out { DisturbanceLaws }
 {}

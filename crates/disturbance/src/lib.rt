@@ -12,4 +12,5 @@ mod scan;
 mod stretch;
 pub mod trace;
 pub mod trigger;
+pub mod turning;
 pub mod worked;

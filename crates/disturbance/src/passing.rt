@@ -69,7 +69,8 @@ impl Stretch {
     // The first whole millisecond, after the one sample and not after the other, that is searched
     // for.
     pub(crate) fn first_passed(self, sought: Search) -> Option<u32>
-        ensures { FirstOrNone (PassedBetween sought.side (level sought.mark) (is_above sought.mark) self.before self.after sought.from) result }
+        ensures { FirstOrNone (PassedBetween sought.side (level sought.mark) (is_above sought.mark)
+            self.before self.after sought.from) result }
     {
         if sought.from > self.after.time as u64 {
             return None;
@@ -82,7 +83,8 @@ impl Stretch {
 
 // The first whole millisecond of a trace that is searched for.
 pub(crate) fn first_on_line(trace: Trace, sought: Search) -> Option<u32>
-    ensures { FirstOrNone (PassedFrom trace.entry.samples.now sought.side (level sought.mark) (is_above sought.mark) sought.from) result }
+    ensures { FirstOrNone (PassedFrom trace.entry.samples.now sought.side (level sought.mark) (is_above sought.mark)
+        sought.from) result }
 {
     first_found(trace, |stretch| stretch.first_passed(sought))
 }

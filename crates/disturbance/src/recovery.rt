@@ -31,8 +31,9 @@ fn first_above(trace: Trace, side: Direction, time: u32) -> Option<u32>
 // recovery dip, or none. Trace and disturbance come apart, here and for the trigger time: a closed docket
 // keeps its disturbance as plain numbers.
 pub fn recovery(trace: Trace, disturbance: Disturbance) -> Option<u32>
-    ensures first { FirstOrNone (Recovered trace.entry.samples.now disturbance) result }
-    ensures only { (o : Maybe ℕ) → FirstOrNone (Recovered trace.entry.samples.now disturbance) o → o ≡ result }
+    ensures first_time_of_recovery_or_none { FirstOrNone (Recovered trace.entry.samples.now disturbance) result }
+    ensures no_other_answer { (o : Maybe ℕ)
+        → FirstOrNone (Recovered trace.entry.samples.now disturbance) o → o ≡ result }
 {
     first_above(trace, disturbance.direction.other(), disturbance.time)
 }

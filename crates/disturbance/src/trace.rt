@@ -35,7 +35,7 @@ fn are_rising(samples: &[Sample]) -> bool
 // Whether samples are sound, so that `Trace { samples }` may be made of them. A timeline asks the same of
 // any entries of a table; a trace knows no table, and its crate stands beside that of timelines.
 pub fn is_sound(samples: &[Sample]) -> bool
-    ensures { Decides result (Sound samples.now) }
+    ensures true_exactly_where_the_samples_are_sound { Decides result (Sound samples.now) }
 {
     are_within(samples) && are_rising(samples)
 }
@@ -43,7 +43,8 @@ pub fn is_sound(samples: &[Sample]) -> bool
 impl<'a> Trace<'a> {
     // A trace of samples that are sound, or none.
     pub fn new(samples: &'a [Sample]) -> Option<Trace<'a>>
-        ensures { MatchOption result (Sound samples.now → ⊥) (λ trace. trace.samples.now ≡ samples.now) }
+        ensures trace_of_the_samples_or_none_where_unsound { MatchOption result (Sound samples.now → ⊥)
+            (λ trace. trace.samples.now ≡ samples.now) }
     {
         // Not by `then`: its closure would need a `requires` that says what the `if` says.
         if is_sound(samples) {

@@ -20,7 +20,8 @@ fn is_before(time: u32, recovery: Option<u32>) -> bool
 // The first whole millisecond from the disturbance time on at which the height of the line is at
 // least that of the trigger, whether the network has recovered or not.
 fn first_reaching(trace: Trace, disturbance: Disturbance, trigger: u32) -> Option<u32>
-    ensures { FirstOrNone (PassedFrom trace.entry.samples.now disturbance.direction (nominal + trigger) false disturbance.time) result }
+    ensures { FirstOrNone (PassedFrom trace.entry.samples.now disturbance.direction (nominal + trigger)
+        false disturbance.time) result }
 {
     let level = NOMINAL as u64 + trigger as u64;
     let sought = Search {
@@ -39,8 +40,10 @@ pub fn trigger_time(
     recovery: Option<u32>,
     trigger: u32,
 ) -> Option<u32>
-    ensures first { FirstOrNone (Triggered trace.entry.samples.now disturbance recovery trigger) result }
-    ensures only { (o : Maybe ℕ) → FirstOrNone (Triggered trace.entry.samples.now disturbance recovery trigger) o → o ≡ result }
+    ensures first_time_of_trigger_or_none { FirstOrNone
+        (Triggered trace.entry.samples.now disturbance recovery trigger) result }
+    ensures no_other_answer { (o : Maybe ℕ)
+        → FirstOrNone (Triggered trace.entry.samples.now disturbance recovery trigger) o → o ≡ result }
 {
     first_reaching(trace, disturbance, trigger).filter(|t| is_before(*t, recovery))
 }

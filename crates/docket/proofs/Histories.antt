@@ -12,7 +12,7 @@ use Rattle.recording.specs.Readings.{time_of, sampled}
 use Rattle.timeline.specs.Checks.{first_of}
 use Rattle.timeline.specs.Samples.{samples}
 use Rattle.timeline.specs.Orders.{Ordered, time_before, time_after, misplaced}
-use Rattle.timeline.specs.Faults.{strike_faults}
+use Rattle.timeline.specs.Faults.{strike_faults, append_faults}
 use Rattle.timeline.proofs.Checks.{none_found}
 use Rattle.timeline.proofs.Orders.{ordered_push, ordered_set, ordered_removed}
 use Rattle.timeline.proofs.Faults.{none_outside, append_room}
@@ -20,10 +20,12 @@ use Rattle.disturbance.specs.declared.disturbance.Disturbance.{Disturbance}
 use Rattle.disturbance.specs.Disturbance.{disturbance_of}
 use Rattle.docket.specs.Reasons.{readings, field_outside, samples_in, sample_list, replaced, amended, put_reasons, amend_reasons}
 use Rattle.docket.specs.Loading.{member_reasons, member_samples, all_samples, time_in, located, or_else, load_fault}
-use Rattle.docket.specs.Accepted.{Accepted, opened, closed, kept, put_record, amend_record, strike_record, load_record, record_fault, marked}
+use Rattle.docket.specs.Accepted.{Accepted, opened, closed, samples_of, kept, put_record, amend_record, strike_record, load_record, record_fault, marked}
 use Rattle.docket.specs.History.{History, new, put, load, amend, strike, close, deliver, reopen}
 use Rattle.std.proofs.lemmas.List.Edits.{length-remove}
-use Rattle.std.proofs.lemmas.Bool.{leb-false}
+use Rattle.std.proofs.lemmas.Bool.{leb-false, or_parts}
+use Rattle.docket.specs.Records.{IsTimeline}
+use Rattle.docket.proofs.CloseRule.{trace_sound}
 use Rattle.docket.proofs.Pushed.{time_pushed}
 use Rattle.docket.proofs.Writing.{or_else_none, or_else_rest, located_none}
 use Rattle.docket.proofs.Limits.{sampled_within, sampled_time}
@@ -32,16 +34,17 @@ use Rattle.docket.proofs.Limits.{sampled_within, sampled_time}
 pub record Fit (places : ℕ) (xs : List Sample) : Type 0 where
   pub ordered : Ordered samples xs
   pub room : length xs ≤ places
+  pub few : length xs ≤ 4096
 
 abbrev pub FitRecord : ℕ → Accepted → Type 0
 FitRecord places (opened xs) = Fit places xs
 FitRecord places (closed xs) = Fit places xs
 
 empty_fit : (places : ℕ) → Fit places []
-empty_fit places = record { ordered = record { within = λ i d h. absurd (omega arith); rising = λ i d h. absurd (omega arith) }; room = omega arith }
+empty_fit places = record { ordered = record { within = λ i d h. absurd (omega arith); rising = λ i d h. absurd (omega arith) }; room = omega arith; few = omega arith }
 
 -- a reading with no field outside its limits gives a sample
-given : (x : Result Sample Field) → field_outside x ≡ None → (s : Sample) × (x ≡ Ok s)
+pub given : (x : Result Sample Field) → field_outside x ≡ None → (s : Sample) × (x ≡ Ok s)
 given (Ok s) e = (s, refl)
 given (Err f) e = let z : ◌≡◌ {A = ℕ} 0 1 = cc in absurd (omega arith)
 
@@ -51,6 +54,12 @@ pub record Grown (places : ℕ) (xs : List Sample) (r : Reading) : Type 0 where
   pub is : sampled r ≡ Ok sample
   pub fit : Fit places (xs ++ sample ∷ [])
 
+-- a reading that may be added is not one too many
+append_few : (places count : ℕ) (before : Option ℕ) (r : Reading) → first_of (append_faults readings places count before r) ≡ None → count < 4096
+append_few places count before r h =
+    let (_, (_, (_, (room, _)))) = none_found (append_faults readings places count before r) h in
+    leb-false 4096 count (or_parts _ _ room).1
+
 pub grown : (places : ℕ) (xs : List Sample) (r : Reading) → Fit places xs → first_of (put_reasons places xs r) ≡ None → Grown places xs r
 grown places xs r f e =
     let n = none_found (put_reasons places xs r) e in
@@ -58,7 +67,8 @@ grown places xs r f e =
     let s = g.0 in
     let m : misplaced (time_before samples xs (length xs)) None s.time ≡ false = ap (misplaced (time_before samples xs (length xs)) None) (sampled_time r s g.1) ∙ n.1.1.1.1.0 in
     let room = append_room readings places (length xs) (time_before samples xs (length xs)) r e in
-    record { sample = s; is = g.1; fit = record { ordered = ordered_push samples xs s f.ordered (sampled_within r s g.1) m; room = omega (arith, length-append xs (s ∷ [])) } }
+    let few = append_few places (length xs) (time_before samples xs (length xs)) r e in
+    record { sample = s; is = g.1; fit = record { ordered = ordered_push samples xs s f.ordered (sampled_within r s g.1) m; room = omega (arith, length-append xs (s ∷ [])); few = omega (arith, length-append xs (s ∷ [])) } }
 
 put_fit : (places : ℕ) (xs : List Sample) (r : Reading) → Fit places xs → Fit places (put_record places xs r)
 put_fit places xs r f = by (first_of (put_reasons places xs r)) refl
@@ -78,7 +88,7 @@ amend_fit places xs i r f = by (first_of (amend_reasons xs i r)) refl
         let g = given (sampled r) (none_outside (field_outside (sampled r)) n.1.0 n.1.1.0 n.1.1.1.0) in
         let s = g.0 in
         let m : misplaced (time_before samples xs i) (time_after samples xs i) s.time ≡ false = ap (misplaced (time_before samples xs i) (time_after samples xs i)) (sampled_time r s g.1) ∙ n.1.1.1.1.0 in
-        subst (λ (x : Result Sample Field). Fit places (replaced xs i x)) (sym g.1) (record { ordered = ordered_set samples xs i s f.ordered lt (sampled_within r s g.1) m; room = simp length-set f.room })
+        subst (λ (x : Result Sample Field). Fit places (replaced xs i x)) (sym g.1) (record { ordered = ordered_set samples xs i s f.ordered lt (sampled_within r s g.1) m; room = simp length-set f.room; few = simp length-set f.few })
     by (Some why) e = f
 
 strike_fit : (places : ℕ) (xs : List Sample) (i : ℕ) → Fit places xs → Fit places (strike_record xs i)
@@ -88,7 +98,8 @@ strike_fit places xs i f = by (first_of (strike_faults xs i)) refl
     by None e =
         let lt : i < length xs = leb-false (length xs) i (none_found (strike_faults xs i) e).0 in
         let room = f.room in
-        record { ordered = ordered_removed samples xs i f.ordered lt; room = omega (arith, length-remove xs i lt) }
+        let few = f.few in
+        record { ordered = ordered_removed samples xs i f.ordered lt; room = omega (arith, length-remove xs i lt); few = omega (arith, length-remove xs i lt) }
     by (Some why) e = f
 
 -- ---- the samples of all members
@@ -133,3 +144,11 @@ history_fit places a (strike xs i h) = strike_fit places xs i (history_fit place
 history_fit places a (close xs h) = close_fit places xs (disturbance_of xs) (history_fit places (opened xs) h)
 history_fit places a (deliver xs q h) = history_fit places (closed xs) h
 history_fit places a (reopen xs h) = history_fit places (closed xs) h
+
+-- so that they are a timeline
+timeline_of : (places : ℕ) (a : Accepted) → FitRecord places a → IsTimeline places (samples_of a)
+timeline_of places (opened xs) f = record { sound = trace_sound xs f.ordered; room = f.room; few = f.few }
+timeline_of places (closed xs) f = record { sound = trace_sound xs f.ordered; room = f.room; few = f.few }
+
+pub history_timeline : (places : ℕ) (a : Accepted) → History places a → IsTimeline places (samples_of a)
+history_timeline places a h = timeline_of places a (history_fit places a h)

@@ -6,3 +6,7 @@ pub mod Writing
 pub mod Histories
 pub mod Leading
 pub mod Delivered
+pub mod SentBack
+pub mod InTurn
+pub mod CloseRule
+pub mod Edits

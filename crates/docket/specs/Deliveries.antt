@@ -20,12 +20,12 @@ pub record Delivered (xs : List Sample) (q : Sought) (r : Result Report Refusal)
   -- the time and direction are those of the samples
   pub disturbed : Disturbed xs disturbance
   -- the report that the steps define, or the refusal of the first defect in the checking order; and no other
-  pub answer : Delivers (asked_on xs disturbance q) r
-  pub only : (s : Result Report Refusal) → Delivers (asked_on xs disturbance q) s → s ≡ r
+  pub the_report_of_the_steps_or_the_first_defect : Delivers (asked_on xs disturbance q) r
+  pub no_other_answer : (s : Result Report Refusal) → Delivers (asked_on xs disturbance q) s → s ≡ r
   -- a report is less than one watt from the exact delivery, and its verdict is fair
-  pub faithful : IfOk r (Faithful (asked_on xs disturbance q))
-  -- it is refused exactly where a defect applies
-  pub refused : RefusedExactly (asked_on xs disturbance q) r
+  pub less_than_a_watt_from_exact_and_fair : IfOk r (Faithful (asked_on xs disturbance q))
+  -- it is refused exactly where a defect applies, and for one that does
+  pub refused_exactly_where_a_defect_applies : RefusedExactly (asked_on xs disturbance q) r
 
 -- the counted samples of a table are sound and have the disturbance that a docket was closed on
 pub record Belongs (count : ℕ) (disturbance : Disturbance) (table : List Sample) : Type 0 where

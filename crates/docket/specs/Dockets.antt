@@ -1,5 +1,5 @@
 -- How a docket and its table stand, and what each call leaves of them.
-use Rattle.std.specs.Prelude.{◌≡◌, ℕ, ◌≤◌, cond, List, ◌∷◌, ◌++◌, length, take, Some, None, Ok, Err, Option, Result}
+use Rattle.std.specs.Prelude.{◌≡◌, ℕ, ◌≤◌, ◌↔◌, cond, List, ◌∷◌, ◌++◌, length, take, Some, None, Ok, Err, Option, Result}
 use Rattle.std.specs.Result.{result_unwrap_or}
 use Rattle.recording.specs.declared.refusal.Reason.TheVariants.{OtherTable, NoDisturbance}
 use Rattle.recording.specs.declared.refusal.Refusal.{Refusal}
@@ -12,7 +12,7 @@ use Rattle.timeline.specs.Orders.{is_sound}
 use Rattle.timeline.specs.Faults.{other_table}
 use Rattle.timeline.specs.Timelines.{Outcome, over, written}
 use Rattle.disturbance.specs.declared.disturbance.Disturbance.{Disturbance}
-use Rattle.disturbance.specs.Disturbance.{disturbance_of}
+use Rattle.disturbance.specs.Disturbance.{Disturbed, disturbance_of}
 use Rattle.docket.specs.declared.docket.OpenDocket.{OpenDocket}
 use Rattle.docket.specs.declared.docket.ClosedDocket.{ClosedDocket}
 use Rattle.docket.specs.declared.docket.Kept.{Kept}
@@ -79,3 +79,8 @@ closes docket table = cond (is_sound samples docket.count table) (closed_with do
 abbrev pub close_says : Result ClosedDocket Kept → Result Disturbance Refusal
 close_says (Ok docket) = Ok docket.disturbance
 close_says (Err k) = Err k.refusal
+
+-- what close says of samples, by the rule of the disturbance: it is closed on d exactly where d is their disturbance, and refused exactly where nothing is
+pub record ClosesExactly (xs : List Sample) (says : Result Disturbance Refusal) : Type 0 where
+  pub closed_on : (d : Disturbance) → (says ≡ Ok d) ↔ Disturbed xs d
+  pub refused : (says ≡ Err (refusal NoDisturbance 0 0)) ↔ ((d : Disturbance) → Disturbed xs d → ⊥)

@@ -5,3 +5,5 @@ pub mod Requests
 pub mod Deliveries
 pub mod History
 pub mod Dockets
+pub mod Records
+pub mod Loads

@@ -13,7 +13,9 @@ use timeline::fault::check_table;
 
 // The disturbance to close on, or why there is none.
 pub(crate) fn closing_disturbance(table: &[Sample], count: usize) -> Result<Disturbance, Reason>
-    ensures { result ≡ cond (sound samples count table.now) (ok_or (disturbance_of (take count table.now)) Reason.NoDisturbance) (Err Reason.OtherTable) }
+    ensures { result ≡ cond (sound samples count table.now)
+        (ok_or (disturbance_of (take count table.now)) Reason.NoDisturbance)
+        (Err Reason.OtherTable) }
 {
     check_table(table, count)?;
     counted_disturbance(table, count).ok_or(Reason::NoDisturbance)

@@ -27,7 +27,9 @@ pub(crate) fn closed_trace(
     count: usize,
     disturbance: Disturbance,
 ) -> Result<Trace<'_>, Reason>
-    ensures { MatchResult result (λ trace. (Belongs count disturbance table.now) × (trace.samples.now ≡ take count table.now)) (λ why. (Belongs count disturbance table.now → ⊥) × (why ≡ Reason.OtherTable)) }
+    ensures { MatchResult result
+        (λ trace. (Belongs count disturbance table.now) × (trace.samples.now ≡ take count table.now))
+        (λ why. (Belongs count disturbance table.now → ⊥) × (why ≡ Reason.OtherTable)) }
 {
     check_table(table, count)?;
     let trace = Trace {
@@ -47,7 +49,8 @@ pub(crate) fn deliver_on<R: ResponseRule>(
     request: Request<'_, R>,
 ) -> Result<Report, Refusal>
     requires { disturbance_of trace.samples.now ≡ Some disturbance }
-    ensures { Delivered trace.entry.samples.now (sought R.ResponseRule.triggers R.ResponseRule.weighs request.entry) result }
+    ensures { Delivered trace.entry.samples.now
+        (sought R.ResponseRule.triggers R.ResponseRule.weighs request.entry) result }
 {
     let Request {
         settings,

@@ -6,4 +6,5 @@ mod delivering;
 pub mod docket;
 mod loading;
 mod putting;
+pub mod records;
 pub mod request;

@@ -23,7 +23,7 @@ module _ (v : Fraction) where
   times_none : Near 0 (whole (pos 0)) (v · 0)
   times_none = near_same (reads_whole (pos 0)) (reads-· 0 reads_self) (omega arith)
 
-  times_more : (j k m : ℕ) → j + k ≡ m → Near 0 (v · j ⊕ v · k) (v · m)
+  pub times_more : (j k m : ℕ) → j + k ≡ m → Near 0 (v · j ⊕ v · k) (v · m)
   times_more j k m e = near_same (reads-⊕ (reads-· j reads_self) (reads-· k reads_self)) (reads-· m reads_self) (rw (← e) (omega arith))
 
   times_one : Near 0 v (v · 1)

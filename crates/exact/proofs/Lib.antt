@@ -9,3 +9,5 @@ pub mod Limits
 pub mod Wholes
 pub mod NearLines
 pub mod Averages
+pub mod Segments
+pub mod EvenChanges

@@ -17,7 +17,7 @@ weights g l b g' l' b' j k M e =
     (rw (← e) (omega arith)) (omega arith) (omega arith) (omega arith)
 
 module _ (v v' : Fraction) (j k d : ℕ) (e : j + k ≡ max 1 d) where
-  weighted : Near 0 (v ⊕ (v' ⊖ v) · k ÷ d) ((v · j ⊕ v' · k) ÷ d)
+  pub weighted : Near 0 (v ⊕ (v' ⊖ v) · k ÷ d) ((v · j ⊕ v' · k) ÷ d)
   weighted = near_same (reads-⊕ reads_self (reads-÷ d (reads-· k (reads-⊖ reads_self reads_self)))) (reads-÷ d (reads-⊕ (reads-· j reads_self) (reads-· k reads_self)))
       (weights _ _ v.bottom _ _ v'.bottom j k (max 1 d) e)
 

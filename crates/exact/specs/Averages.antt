@@ -1,5 +1,5 @@
 -- The mean of the entries of a list, and the trapezoid average of entries that carry a time; what both give where the value is level.
-use Rattle.std.specs.Prelude.{ℕ, ◌-◌, ◌*◌, ◌<◌, ◌≤◌, List, [], ◌∷◌, length, pos}
+use Rattle.std.specs.Prelude.{ℕ, ◌-◌, ◌*◌, ◌<◌, ◌≤◌, List, [], ◌∷◌, ◌++◌, length, ℤ, pos, ◌+ℤ◌, ◌*ℤ◌}
 use Rattle.exact.specs.Fractions.{Fraction, whole, ◌⊕◌, ◌·◌, ◌÷◌, Equal}
 use Rattle.exact.specs.Lines.{line}
 
@@ -36,3 +36,15 @@ pub record Levels : Type 0 where
   pub mean_level : (v : Fraction) (times : List ℕ) → 0 < length times → Equal (mean (λ _. v) times) v
   pub line_level : (v : Fraction) (times : List ℕ) (u : ℕ) → 0 < length times → Equal (line (λ s. s) (λ _. v) times u) v
   pub average_level : (v : Fraction) (t : ℕ) (times : List ℕ) (t' : ℕ) → t < t' → Climbs (λ s. s) t times t' → Equal (average (λ s. s) (λ _. v) t v times t' v) v
+
+-- the value at the time s of what is b at the time 0 and changes by c each millisecond
+abbrev pub evenly : ℤ → ℤ → ℕ → Fraction
+evenly b c s = whole (b +ℤ c *ℤ pos s)
+
+pub record EvenChanges : Type 0 where
+  -- what changes evenly averages to the middle of its two ends, wherever the entries between stand
+  pub average_is_middle : (b c : ℤ) (t : ℕ) (times : List ℕ) (t' : ℕ) → t < t' → Climbs (λ s. s) t times t'
+      → Equal (average (λ s. s) (evenly b c) t (evenly b c t) times t' (evenly b c t')) ((evenly b c t ⊕ evenly b c t') ÷ 2)
+  -- the mean of two lists joined weighs the mean of each by its length
+  pub means_join : (xs ys : List Fraction) → 0 < length xs → 0 < length ys
+      → Equal (mean (λ x. x) (xs ++ ys) · length (xs ++ ys)) (mean (λ x. x) xs · length xs ⊕ mean (λ x. x) ys · length ys)

@@ -34,10 +34,10 @@ module _ (s : _) (trigger : _) (weight : _) (enabled : _) (r : Result Report Ref
   delivered h = record {
     disturbance = disturbance_a;
     disturbed = times.disturbance;
-    answer = h;
-    only = λ a d. one_answer _ a r d h;
-    faithful = made_faithful (asked_of_a s trigger weight enabled) r times.sound fast_sound h;
-    refused = refused_by_defects (asked_of_a s trigger weight enabled) r h;
+    the_report_of_the_steps_or_the_first_defect = h;
+    no_other_answer = λ a d. one_answer _ a r d h;
+    less_than_a_watt_from_exact_and_fair = made_faithful (asked_of_a s trigger weight enabled) r times.sound fast_sound h;
+    refused_exactly_where_a_defect_applies = refused_by_defects (asked_of_a s trigger weight enabled) r h;
   }
 
 -- the disturbance that is worked out is the one of the worked times

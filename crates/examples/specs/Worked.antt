@@ -34,7 +34,7 @@ pub record WorkedExamples : Type 0 where
   -- 0.0078125 MW is 7,813 W, and the opposite −7,812 W
   pub tie_up : Tied false (pos 7813)
   pub tie_down : Tied true (negsuc 7811)
-  -- the weights at dips 150, 200, 300 and 450, 2,000 ms after the disturbance
+  -- 2,000 ms after the disturbance the weights at dips 150, 200, 300 and 450 are 1, 3, 5/3 and 1, and no others
   pub weights : WorkedWeights
   -- a docket with record A closes on that disturbance
   pub closes : close_answer record_a ≡ Ok disturbance_a

@@ -7,7 +7,7 @@ use recording::sample::Sample;
 // A docket closed and opened again, or handed back where it cannot be closed: it has the samples that
 // it had.
 pub fn closed_and_reopened(docket: OpenDocket, table: &[Sample]) -> OpenDocket
-    ensures { result.count ≡ docket.count }
+    ensures counts_as_many_samples_as_before { result.count ≡ docket.count }
 {
     match docket.close(table) {
         Ok(closed) => closed.reopen(),

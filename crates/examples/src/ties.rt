@@ -19,16 +19,16 @@ fn reading_of(power: f32) -> Reading
 
 // 0.0078125 MW is 7,813 W, and nothing else.
 pub fn tie_up() -> Result<Sample, Field>
-    ensures rule { Tied false (pos 7813) }
-    ensures value { result ≡ Ok (sample_of (pos 7813)) }
+    ensures the_rule_gives_7813_watts_alone { Tied false (pos 7813) }
+    ensures answers_7813_watts { result ≡ Ok (sample_of (pos 7813)) }
 {
     reading_of(0.0078125).sample()
 }
 
 // -0.0078125 MW is -7,812 W, and nothing else.
 pub fn tie_down() -> Result<Sample, Field>
-    ensures rule { Tied true (negsuc 7811) }
-    ensures value { result ≡ Ok (sample_of (negsuc 7811)) }
+    ensures the_rule_gives_minus_7812_watts_alone { Tied true (negsuc 7811) }
+    ensures answers_minus_7812_watts { result ≡ Ok (sample_of (negsuc 7811)) }
 {
     reading_of(-0.0078125).sample()
 }

@@ -3,5 +3,5 @@ ghost use Rattle.examples.specs.Worked.{WorkedExamples};
 
 // Times, weights, ties and deliveries, all of the definitions that the calls answer by.
 pub fn worked_examples()
-    ensures { WorkedExamples }
+    ensures the_rules_give_the_worked_numbers { WorkedExamples }
 {}

@@ -18,8 +18,8 @@ use Rattle.response.specs.declared.setup.Trigger.{Trigger}
 use Rattle.figure.specs.declared.point.Point.{Point}
 use Rattle.figure.specs.declared.report.Report.{Report}
 use Rattle.figure.specs.declared.span.Span.{Span}
-use Rattle.figure.specs.Steps.{to_half_up, used_points, base_push, compensated, value_of, value_in, or_none, lesser_of}
-use Rattle.figure.specs.Asked.{Asked, Times, points_of, targets_of, base_samples, shift_in, first_span, second_span, case_of}
+use Rattle.figure.specs.Steps.{to_half_up, base_points, used_points, base_push, compensated, value_of, value_in, or_none, lesser_of}
+use Rattle.figure.specs.Asked.{Asked, Times, points_of, targets_of, shift_in, first_span, second_span, case_of}
 use Rattle.figure.specs.Defects.{MissedByTargets, NeverTriggered, Beyond, Gapped, AtShift, defects}
 use Rattle.figure.specs.Reports.{Reports, AnswerIs}
 use Rattle.figure.specs.Laws.{AlikeBefore, with_samples, PowerAfterRecovery}
@@ -27,12 +27,16 @@ use Rattle.figure.proofs.Alike.{turn_each, all_times, alike_at, triggered_over, 
 
 -- ---- what the defects and the values rest on
 
+-- the points of what is asked that count for its base
+abbrev base_samples : Asked → List Point
+base_samples a = base_points a.disturbance.time a.settings.base (points_of a)
+
 -- the values of windows, by the base points and the used points
 abbrev values_from : Asked → List Point → List Point → Window → Fraction
 values_from a base used = value_of to_half_up (compensated to_half_up a.weight a.disturbance.time (to_half_up (mean (base_push to_half_up a.disturbance.direction (targets_of a) a.disturbance.time) base))) used
 
 -- one fault of a checking order goes over, and then the rest
-same_fault : {A W F G : Type 0} → (F → G) → (A × W) ⊎ ((A → ⊥) × F) → (A × W) ⊎ ((A → ⊥) × G)
+pub same_fault : {A W F G : Type 0} → (F → G) → (A × W) ⊎ ((A → ⊥) × F) → (A × W) ⊎ ((A → ⊥) × G)
 same_fault rest = fault_over (λ p. p) (λ p. p) rest
 
 module _ (R : Option ℕ) (xs ys : List Sample) (h : AllZip (AlikeBefore R) xs ys) where

@@ -8,4 +8,14 @@ pub mod Meanings
 pub mod Shifted
 pub mod Alike
 pub mod AfterRecovery
+pub mod Mirrored
+pub mod WindowAreas
+pub mod WindowValues
+pub mod WindowPlaces
+pub mod WindowDefects
 pub mod RecordA
+pub mod Targets
+pub mod Bases
+pub mod Responses
+pub mod Lesser
+pub mod AskedMeanings

@@ -10,7 +10,7 @@ use Rattle.figure.specs.Points.{course, After, Rises}
 use Rattle.figure.specs.Steps.{inside}
 
 -- ---- of a sound record
-rising_rest : (s : Sample) (xs : List Sample) → Rising (s ∷ xs) → Rising xs
+pub rising_rest : (s : Sample) (xs : List Sample) → Rising (s ∷ xs) → Rising xs
 rising_rest s xs rising k less = rw (add-one k) (simp add-one at (rising (k + 1) (omega arith)))
 
 module _ (d : Direction) where

@@ -16,7 +16,7 @@ use Rattle.figure.specs.declared.point.Point.{Point}
 use Rattle.figure.specs.declared.report.Claim.{Claim}
 use Rattle.figure.specs.declared.span.Span.{Span}
 use Rattle.figure.specs.Points.{course}
-use Rattle.figure.specs.Steps.{Weights, Case, base_points}
+use Rattle.figure.specs.Steps.{Weights, Case}
 use Rattle.figure.specs.Windows.{shift_of, placed, on_clock, unless_empty}
 
 -- a record and its disturbance, the settings, the meaning of the response rule, the targets' table with its count, the side and the row of windows of a service, and the enabled amount
@@ -57,9 +57,6 @@ points_of a = course a.disturbance.direction a.samples
 -- the counted targets; with targets means that there is one
 abbrev pub targets_of : Asked → List Target
 targets_of a = take a.count a.table
-
-abbrev pub base_samples : Asked → List Point
-base_samples a = base_points a.disturbance.time a.settings.base (points_of a)
 
 -- S is the trigger time: the first whole millisecond, or none, at which the rule's trigger is reached; none without a trigger
 abbrev pub TriggerTime : List Sample → Disturbance → Option ℕ → Option Trigger → Option ℕ → Type 0

@@ -1,5 +1,5 @@
 -- A record as its disturbance turns it: dips and pushes in the place of frequencies and powers.
-use Rattle.std.specs.Prelude.{ℕ, ◌<◌, List, [], ◌∷◌, map, pos}
+use Rattle.std.specs.Prelude.{ℕ, ◌<◌, List, [], ◌∷◌, map}
 use Rattle.recording.specs.declared.sample.Sample.{Sample}
 use Rattle.disturbance.specs.declared.direction.Direction.{Direction}
 use Rattle.disturbance.specs.Direction.{dip, push}
@@ -12,10 +12,6 @@ turned d s = record { time = s.time; dip = dip d s.frequency; push = push d s.po
 -- the points of a record, place by place
 abbrev pub course : Direction → List Sample → List Point
 course d xs = map (turned d) xs
-
--- where no point is
-abbrev pub origin : Point
-origin = record { time = 0; dip = pos 0; push = pos 0 }
 
 -- times that strictly rise, all after t
 abbrev pub After : ℕ → List Point → Type 0

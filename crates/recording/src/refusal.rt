@@ -78,7 +78,7 @@ pub struct Refusal {
 impl Field {
     // 1 time, 2 frequency, 3 power: a number, since a refusal's field is told by its number.
     pub fn number(self) -> u8
-        ensures { result ≡ field_number self }
+        ensures number_of_the_field { result ≡ field_number self }
     {
         self as u8
     }
@@ -87,7 +87,7 @@ impl Field {
 impl Reason {
     // The refusal for this reason at the place of a member or entry, which names no byte.
     pub fn at(self, place: usize) -> Refusal
-        ensures { result ≡ refusal self place 0 }
+        ensures refusal_at_the_place_names_no_byte { result ≡ refusal self place 0 }
     {
         Refusal {
             reason: self,
@@ -109,7 +109,7 @@ impl From<Reason> for Refusal {
 impl Refusal {
     // The number in the list of refusals, which is what an operator is told.
     pub fn number(self) -> u8
-        ensures { result ≡ (listed self.reason).number }
+        ensures number_in_the_list_of_refusals { result ≡ (listed self.reason).number }
     {
         match self.reason {
             Reason::OtherTable => 1,
@@ -135,7 +135,7 @@ impl Refusal {
 
     // The part of the work that sends the call back.
     pub fn layer(self) -> Layer
-        ensures { result ≡ (listed self.reason).layer }
+        ensures layer_in_the_list_of_refusals { result ≡ (listed self.reason).layer }
     {
         match self.reason {
             Reason::BeyondEnd | Reason::CutRecord => Layer::Recording,
@@ -161,7 +161,7 @@ impl Refusal {
     // The number of the field that is outside its limits: 1 time, 2 frequency, 3 power; 0, as the list of
     // refusals has it, with any other reason.
     pub fn field(self) -> u8
-        ensures { result ≡ (listed self.reason).field }
+        ensures field_number_or_zero { result ≡ (listed self.reason).field }
     {
         match self.reason {
             Reason::OutsideLimits(field) => field.number(),

@@ -7,6 +7,8 @@ mod expected;
 #[cfg(test)]
 mod floating;
 #[cfg(test)]
+mod odd_positions;
+#[cfg(test)]
 mod recordings;
 #[cfg(test)]
 mod refusals;

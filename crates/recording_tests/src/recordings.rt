@@ -1,11 +1,7 @@
 // Recordings of both makes: members, leftover bytes, and a bad member in the middle.
-use crate::expected::gives;
-use recording::fault::ReadingFault;
+use crate::expected::{gives, is_refused};
 use recording::interface::{Recording, sample_at};
 use recording::makes::{ByteRecording, Make};
-use recording::refusal::Refusal;
-use recording::sample::Sample;
-use std::process::Abort;
 
 // (1 ms; 50,000 mHz; -2 W), then (2 ms; 50,001 mHz; 3 W), then 11 bytes more
 const WHOLE: [u8; 35] = [
@@ -18,27 +14,6 @@ const FLOATING: [u8; 36] = [
     0, 0, 0, 1, 0x42, 0x48, 0, 0, 0x3c, 0, 0, 0, 0, 0, 0, 2, 0x7f, 0x80, 0, 1, 0xc1, 0x48, 0, 0, 0,
     0, 0, 3, 0x42, 0x48, 0, 0, 0xc1, 0x48, 0, 0,
 ];
-
-// What was got is a fault that, as a refusal, has this number, place, byte position and field.
-fn is_refused(
-    rt: &impl Abort,
-    got: Result<Sample, ReadingFault>,
-    number: u8,
-    place: usize,
-    position: usize,
-    field: u8,
-) {
-    let refused = got.map_err(|fault| {
-        let refusal = Refusal::from(fault);
-        (
-            refusal.number(),
-            refusal.place,
-            refusal.position,
-            refusal.field(),
-        )
-    });
-    assert_eq!(rt; refused, Err((number, place, position, field)));
-}
 
 #[test]
 fn an_empty_recording_has_no_member(rt: HostRuntime) {

@@ -24,8 +24,8 @@ use Rattle.figure.specs.declared.report.Claim.{Claim}
 use Rattle.docket.specs.Dockets.{count_after}
 use Rattle.calls.specs.declared.turn.State.{State}
 use Rattle.calls.specs.declared.turn.Turn.{Turn}
+use Rattle.calls.specs.Answers.{told, counted}
 use Rattle.calls.specs.Calls.{Meaning, deliver}
-use Rattle.calls.specs.Turns.{counted}
 use Rattle.calls.specs.Outcomes.{Does}
 use Rattle.script.specs.declared.command.Choice.{Choice}
 use Rattle.script.specs.declared.command.Command.{Command}
@@ -137,10 +137,10 @@ ruled : (p q : Plan) (choice : Choice) → p ≡ q → record p { rule = choice 
 ruled p q choice e = ap {A = Plan} (λ x. record x { rule = choice }) e
 
 on_targets_once : (s t : Session) → Alike s t → (P Q : Result ℕ Refusal → List Target → Type 0) → ((o p : Result ℕ Refusal) (l m : List Target) → P o l → Q p m → (o ≡ p) × (l ≡ m)) → Once s t (OnTargets P s) (OnTargets Q t)
-on_targets_once s t a P Q once r q u v (o, h, n, told, same) (p, k, m, told', same') =
+on_targets_once s t a P Q once r q u v (o, h, n, is, same) (p, k, m, is', same') =
     let one = once o p u.plan.targets v.plan.targets h k in
     let count : u.plan.count ≡ v.plan.count = n ∙ ap (λ x. count_after x s.plan.count) one.0 ∙ ap (λ x. count_after p x.count) a.plan ∙ sym m in (
-      told ∙ ap (λ x. Told (counted x)) one.0 ∙ sym told',
+      is ∙ ap (λ x. Told (told (counted x))) one.0 ∙ sym is',
       record {
         table = ap (λ x. x.table.items) same.desk ∙ a.table ∙ sym (ap (λ x. x.table.items) same'.desk);
         state = ap (λ x. x.state) same.desk ∙ a.state ∙ sym (ap (λ x. x.state) same'.desk);

@@ -18,8 +18,8 @@ use Rattle.response.specs.Services.{KnownBy}
 use Rattle.response.specs.Settings.{Allowed, numbers_of, plain_numbers, with_base}
 use Rattle.figure.specs.declared.report.Claim.{Claim}
 use Rattle.docket.specs.Dockets.{count_after}
+use Rattle.calls.specs.Answers.{told, counted}
 use Rattle.calls.specs.Calls.{Meaning, put, load, amend, strike, close, deliver, reopen}
-use Rattle.calls.specs.Turns.{counted}
 use Rattle.calls.specs.Outcomes.{open_with}
 use Rattle.script.specs.declared.command.Command.{Command}
 use Rattle.script.specs.declared.command.Command.TheVariants as command
@@ -73,7 +73,7 @@ pub record Tries (s : Session) (begin end : ℕ) (reply : Reply) (t : Session) :
 
 -- ---- targets: a call on their timeline, answered as one
 abbrev pub OnTargets : ((r : Result ℕ Refusal) → List Target → Type 0) → Session → Reply → Session → Type 0
-OnTargets edits s reply t = (o : Result ℕ Refusal) × edits o t.plan.targets × (t.plan.count ≡ count_after o s.plan.count) × (reply ≡ Told (counted o)) × SamePlan s t
+OnTargets edits s reply t = (o : Result ℕ Refusal) × edits o t.plan.targets × (t.plan.count ≡ count_after o s.plan.count) × (reply ≡ Told (told (counted o))) × SamePlan s t
 
 -- ---- calls on the docket, which leave the terms of deliveries
 pub record OnDocket (s : Session) (call : Meaning) (reply : Reply) (t : Session) : Type 0 where
@@ -126,3 +126,9 @@ Acts s (command.Strike i) reply t = OnDocket s (strike i) reply t
 Acts s command.Close reply t = OnDocket s close reply t
 Acts s (command.Deliver code enabled) reply t = Delivers s code.now enabled reply t
 Acts s command.Reopen reply t = OnDocket s reopen reply t
+
+-- ---- trials
+-- a line that does not ask for other settings leaves them as they were: whichever window a delivery tries, and however the delivery ends, the former window is put back
+abbrev pub PutsBack : Session → Command → Session → Type 0
+PutsBack s (command.Settings p) t = Unit {0}
+PutsBack s c t = t.settings ≡ s.settings

@@ -47,7 +47,8 @@ impl Desk {
 
     // A new table of so many places. The docket stays.
     pub(crate) fn change_table(&mut self, heap: Global, places: usize) -> Result<Reply, AllocError>
-        ensures { IfOk result (λ reply. (reply ≡ Reply.Done) × (self.new.table.items ≡ blank_table places) × (self.new.state ≡ self.old.state)) }
+        ensures { IfOk result (λ reply. (reply ≡ Reply.Done) × (self.new.table.items ≡ blank_table places)
+            × (self.new.state ≡ self.old.state)) }
     {
         self.table = vec![in heap; BLANK; places]?;
         Ok(Reply::Done)

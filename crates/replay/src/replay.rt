@@ -48,8 +48,8 @@ fn told(
 
 // The text of the answers to the lines of a script, in turn, from a new session: the only one for it.
 pub fn replay(heap: Global, script: &str) -> Result<String, AllocError>
-    ensures text { IfOk result (λ text. Replays script.now (string_bytes text)) }
-    ensures only { IfOk result (λ text. (t : List ℕ) → Replays script.now t → t ≡ string_bytes text) }
+    ensures answers_each_line_in_its_session { IfOk result (λ text. Replays script.now (string_bytes text)) }
+    ensures no_other_text { IfOk result (λ text. (t : List ℕ) → Replays script.now t → t ≡ string_bytes text) }
 {
     let lines = lines(heap, script)?;
     let mut session = Session::new(heap)?;

@@ -1,6 +1,6 @@
 // A session: a docket with its table, and what deliveries are made with.
 ghost use Rattle.std.specs.Prelude.{◌≡◌, None, IfOk};
-ghost use Rattle.replay.specs.Sessions.{Fresh, Acts, Tries, Loads, digits_of, Delivers, Claims};
+ghost use Rattle.replay.specs.Sessions.{Fresh, Acts, PutsBack, Tries, Loads, digits_of, Delivers, Claims};
 
 use crate::desk::Desk;
 use crate::plan::Plan;
@@ -29,7 +29,7 @@ pub struct Session {
 impl Session {
     // A new docket, as many places as a docket may hold samples, the plain settings and no targets.
     pub fn new(heap: Global) -> Result<Session, AllocError>
-        ensures { IfOk result Fresh }
+        ensures starts_fresh_with_plain_settings { IfOk result Fresh }
     {
         Ok(Session {
             desk: Desk::new(heap, MOST_SAMPLES)?,
@@ -41,7 +41,8 @@ impl Session {
 
     // Does what a line says, and replies to it.
     pub fn act(&mut self, heap: Global, command: Command<'_>) -> Result<Reply, AllocError>
-        ensures { IfOk result (λ reply. Acts self.old command.entry reply self.new) }
+        ensures replies_and_acts_as_the_line_says { IfOk result (λ reply. Acts self.old command.entry reply self.new) }
+        ensures every_trial_puts_the_former_settings_back { IfOk result (λ _. PutsBack self.old command.entry self.new) }
     {
         Ok(match command {
             Command::New => self.desk.change_docket(),

@@ -20,8 +20,8 @@ use Rattle.docket.specs.Requests.{Sought}
 use Rattle.docket.specs.Deliveries.{Delivered}
 use Rattle.calls.specs.declared.answer.Answer.{Answer}
 use Rattle.calls.specs.declared.answer.Answer.TheVariants.{Closed, Refused}
+use Rattle.calls.specs.Answers.{told, counted, closed_on, reported}
 use Rattle.calls.specs.Calls.{Meaning, close, deliver}
-use Rattle.calls.specs.Turns.{counted, told_closed, reported}
 use Rattle.calls.proofs.Taking.{marked_samples}
 use Rattle.calls.specs.declared.run.NotOffered.{NotOffered}
 use Rattle.calls.specs.Runs.{Runs, Ran}
@@ -60,7 +60,7 @@ over_twice xs t = ap (λ rest. xs ++ rest) (drop-append_seam xs (drop (length xs
 -- x is the answer to a delivery for the service s
 pub record AnswersFor (xs : List Sample) (seeks : Service → Sought) (s : Service) (x : Answer) : Type 0 where
   pub answer : Result Report Refusal
-  pub is : x ≡ reported answer
+  pub is : x ≡ told (reported answer)
   pub delivered : Delivered xs (seeks s) answer
 
 module _ (places : ℕ) (xs : List Sample) (seeks : Service → Sought) (table : List Sample) (fixed : over xs table ≡ table) where
@@ -84,15 +84,15 @@ pub data Closing (xs : List Sample) (seeks : Service → Sought) (answers : List
   done : (d : Disturbance) (more : List Answer) → close_answer xs ≡ Ok d → answers ≡ Closed d ∷ more → AllZip (AnswersFor xs seeks) services more → Closing xs seeks answers
 
 module _ (places : ℕ) (xs : List Sample) (seeks : Service → Sought) (table : List Sample) (fixed : over xs table ≡ table) where
-  after_close : (o : Option Disturbance) → disturbance_of xs ≡ o → (x : Answer) (rest : List Answer) (left : List Sample) → x ≡ told_closed (close_answer xs) → Runs places (marked o xs) table (map (λ s. deliver (seeks s)) services) rest left → Closing xs seeks (x ∷ rest) × (left ≡ table)
-  after_close (Some d) found x rest left told r =
+  after_close : (o : Option Disturbance) → disturbance_of xs ≡ o → (x : Answer) (rest : List Answer) (left : List Sample) → x ≡ told (closed_on (close_answer xs)) → Runs places (marked o xs) table (map (λ s. deliver (seeks s)) services) rest left → Closing xs seeks (x ∷ rest) × (left ≡ table)
+  after_close (Some d) found x rest left is r =
       let answer : close_answer xs ≡ Ok d = ap disturbed found in
       let more = all_answered places xs seeks table fixed services rest left r in
-      (done d rest answer (ap (λ y. y ∷ rest) (told ∙ ap told_closed answer)) more.0, more.1)
-  after_close None found x [] left told (unoffered, e) =
+      (done d rest answer (ap (λ y. y ∷ rest) (is ∙ ap (λ r. told (closed_on r)) answer)) more.0, more.1)
+  after_close None found x [] left is (unoffered, e) =
       let answer : close_answer xs ≡ disturbed None = ap disturbed found in
-      (kept (refusal NoDisturbance 0 0) [] answer (ap (λ y. y ∷ []) (told ∙ ap told_closed answer)), e)
-  after_close None found x (y ∷ rest) left told (next, none, r) = absurd none
+      (kept (refusal NoDisturbance 0 0) [] answer (ap (λ y. y ∷ []) (is ∙ ap (λ r. told (closed_on r)) answer)), e)
+  after_close None found x (y ∷ rest) left is (next, none, r) = absurd none
 
   closing : (answers : List Answer) (left : List Sample) → Runs places (opened xs) table (close ∷ map (λ s. deliver (seeks s)) services) answers left → Closing xs seeks answers × (left ≡ table)
   closing [] left (unoffered, e) = absurd (cc)
@@ -105,7 +105,7 @@ module _ (places : ℕ) (ms : List Member) (seeks : Service → Sought) where
   -- the answers in turn: that of load, and those of what comes after it
   pub record InTurn (answers : List Answer) : Type 0 where
     pub rest : List Answer
-    pub are : answers ≡ counted (load_answer places [] ms) ∷ rest
+    pub are : answers ≡ told (counted (load_answer places [] ms)) ∷ rest
     pub closing : Closing (taken places ms) seeks rest
 
   runs_in_turn : (t : List Sample) (answers : List Answer) (left : List Sample) → Runs places (opened []) t (in_turn ms seeks) answers left → InTurn answers × (left ≡ over (taken places ms) t)
@@ -137,15 +137,15 @@ module _ (places : ℕ) (ms : List Member) (seeks : Service → Sought) where
       (subst InTurn (sym h.told) (in_turn_over h.answers filled eight k.0), k.1)
 
   -- ---- what the answers tell
-  is_refused : (r : Result ℕ Refusal) (f : Refusal) → counted r ≡ Refused f → r ≡ Err f
+  is_refused : (r : Result ℕ Refusal) (f : Refusal) → told (counted r) ≡ Refused f → r ≡ Err f
   is_refused (Ok n) f e = absurd (cc)
   is_refused (Err g) f e = let same : g ≡ f = cc in ap Err same
 
-  is_counted : (r : Result ℕ Refusal) → ((f : Refusal) → counted r ≡ Refused f → ⊥) → (n : ℕ) × (r ≡ Ok n)
+  is_counted : (r : Result ℕ Refusal) → ((f : Refusal) → told (counted r) ≡ Refused f → ⊥) → (n : ℕ) × (r ≡ Ok n)
   is_counted (Ok n) none = (n, refl)
   is_counted (Err g) none = absurd (none g refl)
 
-  first_answer : (answers : List Answer) (h : InTurn answers) (y : Answer) → get_or answers 0 y ≡ counted (load_answer places [] ms)
+  first_answer : (answers : List Answer) (h : InTurn answers) (y : Answer) → get_or answers 0 y ≡ told (counted (load_answer places [] ms))
   first_answer answers h y = ap (λ ys. get_or ys 0 y) h.are
 
   -- load is refused
@@ -159,7 +159,7 @@ module _ (places : ℕ) (ms : List Member) (seeks : Service → Sought) where
       ap (then_closed (taken places ms)) n.1
 
   second_answer : (answers : List Answer) (h : InTurn answers) (x y : Answer) (more : List Answer) → h.rest ≡ x ∷ more → get_or answers 1 y ≡ x
-  second_answer answers h x y more e = ap (λ ys. get_or ys 1 y) (h.are ∙ ap (λ ys. counted (load_answer places [] ms) ∷ ys) e)
+  second_answer answers h x y more e = ap (λ ys. get_or ys 1 y) (h.are ∙ ap (λ ys. told (counted (load_answer places [] ms)) ∷ ys) e)
 
   -- close is refused
   pub close_refused : (answers : List Answer) → InTurn answers → (y z : Answer) (f : Refusal) → ((g : Refusal) → get_or answers 0 y ≡ Refused g → ⊥) → get_or answers 1 z ≡ Refused f → loaded_and_closed places ms ≡ Err f
@@ -180,14 +180,14 @@ module _ (places : ℕ) (ms : List Member) (seeks : Service → Sought) where
     where
       by : Closing (taken places ms) seeks h.rest → Done answers
       by (kept g more answer is) = absurd (no_more g (second_answer answers h (Refused g) z more is))
-      by (done d more answer is told) =
-          let six : length more ≡ 6 = AllZip-long (AnswersFor (taken places ms) seeks) services more told in
-          let all : answers ≡ counted (load_answer places [] ms) ∷ Closed d ∷ more = h.are ∙ ap (λ ys. counted (load_answer places [] ms) ∷ ys) is in
+      by (done d more answer is each) =
+          let six : length more ≡ 6 = AllZip-long (AnswersFor (taken places ms) seeks) services more each in
+          let all : answers ≡ told (counted (load_answer places [] ms)) ∷ Closed d ∷ more = h.are ∙ ap (λ ys. told (counted (load_answer places [] ms)) ∷ ys) is in
           let e : more ≡ take 6 (drop 2 answers) = sym (ap (λ ys. take 6 (drop 2 ys)) all ∙ ap (λ n. take n more) (sym six) ∙ take-length more) in
-          record { disturbance = d; closed = loaded answers h y none ∙ answer; told = subst (AllZip (AnswersFor (taken places ms) seeks) services) e told }
+          record { disturbance = d; closed = loaded answers h y none ∙ answer; told = subst (AllZip (AnswersFor (taken places ms) seeks) services) e each }
 
 -- ---- the deliveries that are told
-reported_delivery : (r : Result Report Refusal) → OfDelivery (reported r)
+reported_delivery : (r : Result Report Refusal) → OfDelivery (told (reported r))
 reported_delivery (Ok report) = tt
 reported_delivery (Err f) = tt
 
@@ -197,13 +197,13 @@ each_delivery xs seeks [] (y ∷ ys) h = absurd h
 each_delivery xs seeks (s ∷ ss) [] h = absurd h
 each_delivery xs seeks (s ∷ ss) (y ∷ ys) h = All-cons OfDelivery y ys (subst OfDelivery (sym h.0.is) (reported_delivery h.0.answer)) (each_delivery xs seeks ss ys h.1)
 
-same_report : (r q : Result Report Refusal) → reported r ≡ reported q → r ≡ q
+same_report : (r q : Result Report Refusal) → told (reported r) ≡ told (reported q) → r ≡ q
 same_report (Ok r) (Ok q) e = cc
 same_report (Ok r) (Err g) e = absurd (cc)
 same_report (Err f) (Ok q) e = absurd (cc)
 same_report (Err f) (Err g) e = cc
 
-all_told : (xs : List Sample) (seeks : Service → Sought) (ss : List Service) (answers : List Answer) (ds : List Delivery) → AllZip (AnswersFor xs seeks) ss answers → map (λ d. d.service) ds ≡ ss → map (λ d. reported d.answer) ds ≡ answers → AllZip (Tells xs seeks) ss ds
+all_told : (xs : List Sample) (seeks : Service → Sought) (ss : List Service) (answers : List Answer) (ds : List Delivery) → AllZip (AnswersFor xs seeks) ss answers → map (λ d. d.service) ds ≡ ss → map (λ d. told (reported d.answer)) ds ≡ answers → AllZip (Tells xs seeks) ss ds
 all_told xs seeks [] ys [] h e r = tt
 all_told xs seeks [] [] (d ∷ ds) h e r = absurd (cc)
 all_told xs seeks [] (y ∷ ys) (d ∷ ds) h e r = absurd h
@@ -212,12 +212,12 @@ all_told xs seeks (s ∷ ss) (y ∷ ys) [] h e r = absurd (cc)
 all_told xs seeks (s ∷ ss) (y ∷ ys) (d ∷ ds) h e r =
     let same : d.service ≡ s = cc in
     let more : map (λ x. x.service) ds ≡ ss = cc in
-    let first : reported d.answer ≡ y = cc in
-    let others : map (λ x. reported x.answer) ds ≡ ys = cc in
+    let first : told (reported d.answer) ≡ y = cc in
+    let others : map (λ x. told (reported x.answer)) ds ≡ ys = cc in
     let is : h.0.answer ≡ d.answer = same_report h.0.answer d.answer (sym h.0.is ∙ sym first) in
     (record { service = same; answer = subst (Delivered xs (seeks s)) is h.0.delivered }, all_told xs seeks ss ys ds h.1 more others)
 
-pub settled : (places : ℕ) (ms : List Member) (seeks : Service → Sought) (answers : List Answer) → Done places ms seeks answers → (ds : List Delivery) → map (λ d. d.service) ds ≡ services → map (λ d. reported d.answer) ds ≡ take 6 (drop 2 answers) → Settles places ms seeks (Ok ds)
+pub settled : (places : ℕ) (ms : List Member) (seeks : Service → Sought) (answers : List Answer) → Done places ms seeks answers → (ds : List Delivery) → map (λ d. d.service) ds ≡ services → map (λ d. told (reported d.answer)) ds ≡ take 6 (drop 2 answers) → Settles places ms seeks (Ok ds)
 settled places ms seeks answers k ds e r = ((k.disturbance, k.closed), all_told (taken places ms) seeks services (take 6 (drop 2 answers)) ds k.told e r)
 
 -- a list of six by its places

@@ -31,8 +31,8 @@ fn variable_rule(settings: &Settings) -> Variable
 
 // The text of the report, the only one for these bytes.
 pub fn report(heap: Global, bytes: &[u8]) -> Result<String, AllocError>
-    ensures text { IfOk result (λ s. Reports bytes.now (string_bytes s)) }
-    ensures only { IfOk result (λ s. ((t : List ℕ) → Reports bytes.now t → t ≡ string_bytes s)) }
+    ensures text_of_the_six_deliveries_or_the_refusal { IfOk result (λ s. Reports bytes.now (string_bytes s)) }
+    ensures no_other_text { IfOk result (λ s. ((t : List ℕ) → Reports bytes.now t → t ≡ string_bytes s)) }
 {
     // as many places as a docket may hold samples
     let mut table = vec![in heap; BLANK; MOST_SAMPLES]?;

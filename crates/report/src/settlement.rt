@@ -3,8 +3,8 @@ ghost use Rattle.std.specs.Prelude.{◌≡◌, ◌<◌, List, length, map, slice
 ghost use Rattle.std.specs.List.{All};
 ghost use Rattle.recording.specs.declared.refusal.Refusal.{Refusal as SentBack};
 ghost use Rattle.timeline.specs.Timelines.{over};
+ghost use Rattle.calls.specs.Answers.{told, reported};
 ghost use Rattle.calls.specs.Calls.{meaning_of, deliver};
-ghost use Rattle.calls.specs.Turns.{reported};
 ghost use Rattle.report.specs.declared.settlement.Delivery.{Delivery as Settled};
 ghost use Rattle.report.specs.Settlements.{services, bare, in_turn, taken, OfDelivery, Settles};
 
@@ -36,7 +36,8 @@ fn delivering<'a, R: Recording, P: ResponseRule>(
     rule: &'a P,
     service: Service,
 ) -> Call<'a, R, P>
-    ensures { meaning_of R.meaning P.ResponseRule.triggers P.ResponseRule.weighs result ≡ deliver (bare settings.now (P.ResponseRule.triggers rule.now) (P.ResponseRule.weighs rule.now) service) }
+    ensures { meaning_of R.meaning P.ResponseRule.triggers P.ResponseRule.weighs result
+        ≡ deliver (bare settings.now (P.ResponseRule.triggers rule.now) (P.ResponseRule.weighs rule.now) service) }
 {
     let claim = Claim {
         service,
@@ -57,7 +58,9 @@ fn settling<'a, R: Recording, P: ResponseRule>(
     settings: &'a Settings,
     rule: &'a P,
 ) -> [Call<'a, R, P>; 8]
-    ensures { map (meaning_of R.meaning P.ResponseRule.triggers P.ResponseRule.weighs) result ≡ in_turn (R.meaning recording.now) (bare settings.now (P.ResponseRule.triggers rule.now) (P.ResponseRule.weighs rule.now)) }
+    ensures { map (meaning_of R.meaning P.ResponseRule.triggers P.ResponseRule.weighs) result
+        ≡ in_turn (R.meaning recording.now)
+        (bare settings.now (P.ResponseRule.triggers rule.now) (P.ResponseRule.weighs rule.now)) }
 {
     [
         Call::Load(recording),
@@ -76,7 +79,7 @@ fn delivery_at(service: Service, answers: &[Answer], place: usize) -> Delivery
     requires answers { All OfDelivery answers.now }
     requires place { place < length answers.now }
     ensures service { result.service ≡ service }
-    ensures answer { (d : _) → reported result.answer ≡ slice_index_or answers.now place d }
+    ensures answer { (d : _) → told (reported result.answer) ≡ slice_index_or answers.now place d }
 {
     let answer = match answers[place] {
         Answer::Reported(report) => Ok(report),
@@ -91,7 +94,7 @@ fn deliveries(answers: &[Answer]) -> Settlement
     requires answers { All OfDelivery answers.now }
     requires all { length answers.now ≡ 6 }
     ensures services { map (λ d. d.service) result ≡ services }
-    ensures answers { map (λ d. reported d.answer) result ≡ answers.now }
+    ensures answers { map (λ d. told (reported d.answer)) result ≡ answers.now }
 {
     [
         delivery_at(Service::R6, answers, 0),
@@ -111,9 +114,13 @@ pub fn settle<R: Recording, P: ResponseRule>(
     settings: &Settings,
     rule: &P,
 ) -> Result<Settlement, Refusal>
-    ensures outcome { Settles (length table.old) (R.meaning recording.now) (bare settings.now (P.ResponseRule.triggers rule.now) (P.ResponseRule.weighs rule.now)) result }
-    ensures only { (o : Either (List Settled) SentBack) → Settles (length table.old) (R.meaning recording.now) (bare settings.now (P.ResponseRule.triggers rule.now) (P.ResponseRule.weighs rule.now)) o → o ≡ result }
-    ensures table { table.new ≡ over (taken (length table.old) (R.meaning recording.now)) table.old }
+    ensures the_six_deliveries_or_the_refusal { Settles (length table.old) (R.meaning recording.now)
+        (bare settings.now (P.ResponseRule.triggers rule.now) (P.ResponseRule.weighs rule.now)) result }
+    ensures no_other_settlement { (o : Either (List Settled) SentBack)
+        → Settles (length table.old) (R.meaning recording.now)
+        (bare settings.now (P.ResponseRule.triggers rule.now) (P.ResponseRule.weighs rule.now)) o → o ≡ result }
+    ensures the_accepted_samples_over_the_table { table.new
+        ≡ over (taken (length table.old) (R.meaning recording.now)) table.old }
 {
     let calls = settling(recording, settings, rule);
     let mut answers = [Answer::Reopened; 8];

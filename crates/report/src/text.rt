@@ -37,7 +37,7 @@ pub fn outcome_text(
     heap: Global,
     outcome: Result<Settlement, Refusal>,
 ) -> Result<String, AllocError>
-    ensures { IfOk result (λ s. string_bytes s ≡ outcome_text outcome) }
+    ensures the_lines_of_the_deliveries_or_the_refusal { IfOk result (λ s. string_bytes s ≡ outcome_text outcome) }
 {
     match outcome {
         Ok(settlement) => settlement_text(heap, settlement),

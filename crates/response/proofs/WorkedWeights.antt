@@ -1,20 +1,41 @@
--- The worked weights: the factor is computed, and the weight is the only one with its value.
-use Rattle.std.proofs.Common.{◌≡◌, ℕ, ◌*◌, ◌<◌, pos, refl, arith}
+-- The worked weights: the factor is computed, and what equals a weight is one.
+use Rattle.std.proofs.Common.{◌≡◌, ℕ, ◌*◌, ◌<◌, ℤ, pos, refl, arith}
+use Rattle.exact.specs.Fractions.{Fraction, frac}
 use Rattle.exact.proofs.Naturals.{≼-in}
-use Rattle.exact.proofs.Order.{reads_over, ≼-≼}
-use Rattle.response.specs.Weights.{Factor}
-use Rattle.response.specs.VariableRule.{variable}
+use Rattle.exact.proofs.Order.{reads_over, ≼-≼, ≺-≼, ≼-≺}
+use Rattle.response.specs.Weights.{Factor, value}
+use Rattle.response.specs.VariableRule.{Equal, Bounded, VariableWeight, variable}
 use Rattle.response.specs.WorkedWeights.{PlainlyWeighs, WorkedWeights}
 use Rattle.response.proofs.VariableRule.{weight_is, weight_only}
 
--- a weight is what the factor is, by cross-multiplication
+-- ---- another way to write a weight
+bounded_too : {q v w : Fraction} → Equal v w → Bounded q v → Bounded q w
+bounded_too e h = record {
+  least = ≼-≼ h.least e.0;
+  most = ≼-≼ e.1 h.most;
+  below = λ lt. ≼-≼ e.1 (h.below (≺-≼ lt e.1));
+  above = λ lt. ≼-≼ (h.above (≼-≺ e.0 lt)) e.0;
+}
+
+weight_too : {rate reference dead : ℕ} {dip : ℤ} {offset : ℕ} {v w : Fraction} → Equal v w → VariableWeight rate reference dead dip offset v → VariableWeight rate reference dead dip offset w
+weight_too e h = record {
+  in_band = λ k. (≼-≼ e.1 (h.in_band k).0, ≼-≼ (h.in_band k).1 e.0);
+  beyond = λ over p k r ramp. bounded_too e (h.beyond over p k r ramp);
+}
+
+-- ---- a weight is what the factor is, by cross-multiplication
 weighs_by : (dip n d : ℕ) → 0 < d → (variable 125 500 150 (pos dip) 2000).n * d ≡ n * (variable 125 500 150 (pos dip) 2000).d → PlainlyWeighs dip n d
-weighs_by dip n d p e w h =
+weighs_by dip n d p e =
     let f : Factor = variable 125 500 150 (pos dip) 2000 in
-    let same = weight_only 125 500 150 (pos dip) 2000 w _ h (weight_is 125 500 150 (pos dip) 2000 (omega arith) (omega arith)) in
     let r = reads_over (pos f.n) f.d (omega (arith, f.above)) in
     let s = reads_over (pos n) d p in
-    (≼-≼ same.0 (≼-in r s (omega (arith, e))), ≼-≼ (≼-in s r (omega (arith, e))) same.1)
+    let answered : Equal (value f) (frac (pos n) d) = (≼-in r s (omega (arith, e)), ≼-in s r (omega (arith, e))) in
+    let weight = weight_is 125 500 150 (pos dip) 2000 (omega arith) (omega arith) in
+    record {
+      is = weight_too answered weight;
+      only = λ w h. let same = weight_only 125 500 150 (pos dip) 2000 w _ h weight in (≼-≼ same.0 answered.0, ≼-≼ answered.1 same.1);
+      answered = answered;
+    }
 
 pub worked : WorkedWeights
 worked = record {

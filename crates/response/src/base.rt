@@ -16,7 +16,8 @@ pub struct BaseWindow {
 impl BaseWindow {
     // The window from `begin` to `end`, which is refused outside the limits.
     pub fn new(begin: u32, end: u32) -> Result<BaseWindow, Refusal>
-        ensures { Granted result (IsBase begin end) (λ w. (w.begin ≡ begin) × (w.end ≡ end)) }
+        ensures granted_exactly_within_the_limits { Granted result (IsBase begin end)
+            (λ w. (w.begin ≡ begin) × (w.end ≡ end)) }
     {
         // Two comparisons and no range: the number after `end` need not fit its type.
         if end < begin && begin <= EARLIEST_BEGIN {

@@ -72,8 +72,8 @@ const ROWS: [Row; 3] = [
 impl Group {
     // The group's row, which is sound as every row is.
     pub fn row(self) -> Row
-        ensures value { result ≡ row_of self }
-        ensures sound { Sound result }
+        ensures row_of_the_group_in_the_table { result ≡ row_of self }
+        ensures windows_can_be_averaged { Sound result }
     {
         ROWS[self as usize]
     }

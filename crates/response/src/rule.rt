@@ -14,10 +14,10 @@ pub trait ResponseRule {
     ghost weighs: { Self → ℤ → ℕ → Factor };
 
     fn trigger(&self) -> Option<Trigger>
-        ensures answer { result ≡ triggers self.now }
-        ensures kept { self.exit.now ≡ self.entry.now };
+        ensures answers_the_trigger_or_none { result ≡ triggers self.now }
+        ensures rule_as_before { self.exit.now ≡ self.entry.now };
 
     fn weight(&self, dip: Dip, offset: Offset) -> Weight
-        ensures answer { Weighs result (weighs self.now dip.mhz offset.ms) }
-        ensures kept { self.exit.now ≡ self.entry.now };
+        ensures answers_the_factor_of_the_rule { Weighs result (weighs self.now dip.mhz offset.ms) }
+        ensures rule_as_before { self.exit.now ≡ self.entry.now };
 }

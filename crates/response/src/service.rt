@@ -30,7 +30,7 @@ impl Side {
     // The direction of the disturbances that services of this side belong to. A question to a side, as `side`
     // and `group` are to a service, and no conversion: a side is not written as its direction.
     pub fn direction(self) -> Direction
-        ensures { result ≡ direction_of self }
+        ensures direction_that_the_side_answers { result ≡ direction_of self }
     {
         match self {
             Side::Raise => Direction::Low,
@@ -69,14 +69,14 @@ impl fmt::Display for Service {
 impl Service {
     // The service with this code. Any other text is refused.
     pub fn from_code(code: &str) -> Result<Service, Refusal>
-        ensures { KnownBy code.now result }
+        ensures service_with_the_code_or_refused { KnownBy code.now result }
     {
         code.parse()
     }
 
     // The code by which the service is known.
     pub fn code(self) -> &'static str
-        ensures { result.now ≡ (listed self).code }
+        ensures code_in_the_list_of_services { result.now ≡ (listed self).code }
     {
         // The list of the codes, which `from_str` reads the other way.
         match self {
@@ -91,7 +91,7 @@ impl Service {
 
     // The side on which the service works.
     pub fn side(self) -> Side
-        ensures { result ≡ (listed self).side }
+        ensures side_in_the_list_of_services { result ≡ (listed self).side }
     {
         match self {
             Service::R6 | Service::R60 | Service::R5 => Side::Raise,
@@ -101,7 +101,7 @@ impl Service {
 
     // The group with whose windows the service is measured.
     pub fn group(self) -> Group
-        ensures { result ≡ (listed self).group }
+        ensures group_in_the_list_of_services { result ≡ (listed self).group }
     {
         match self {
             Service::R6 | Service::L6 => Group::Fast,
@@ -113,5 +113,5 @@ impl Service {
 
 // No two services have one code, so the service that a code stands for is the only one.
 pub fn codes_are_apart()
-    ensures { Apart }
+    ensures no_two_services_share_a_code { Apart }
 {}

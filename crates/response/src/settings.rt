@@ -29,7 +29,7 @@ impl Settings {
     // The settings that are asked for, which are refused if any is outside its limits. A constructor, as each
     // part has one: a `TryFrom` would be the same under another name.
     pub fn new(proposal: Proposal) -> Result<Settings, Refusal>
-        ensures { Granted result (Allowed proposal) (λ s. numbers_of s ≡ proposal) }
+        ensures granted_exactly_within_the_limits { Granted result (Allowed proposal) (λ s. numbers_of s ≡ proposal) }
     {
         let rate = Rate::new(proposal.rate)?;
         let switch_dip = Trigger::new(proposal.switch_dip)?;
@@ -41,7 +41,7 @@ impl Settings {
 
     // The plain settings.
     pub fn plain() -> Settings
-        ensures { numbers_of result ≡ plain_numbers }
+        ensures has_the_plain_numbers { numbers_of result ≡ plain_numbers }
     {
         let rate = Rate { mhz_per_s: 125 };
         let switch_dip = Trigger { dip: 200 };
@@ -62,15 +62,16 @@ impl Settings {
 
     // The base window.
     pub fn base(&self) -> BaseWindow
-        ensures { result ≡ self.now.base }
+        ensures answers_the_base_window { result ≡ self.now.base }
     {
         self.base
     }
 
     // Takes other settings in the place of these, unless one of them is outside its limits: then these stay.
     pub fn change(&mut self, proposal: Proposal) -> Result<(), Refusal>
-        ensures granted { Granted result (Allowed proposal) (λ _. numbers_of self.new ≡ proposal) }
-        ensures kept { OnErr result (self.new ≡ self.old) }
+        ensures changed_exactly_within_the_limits { Granted result (Allowed proposal)
+            (λ _. numbers_of self.new ≡ proposal) }
+        ensures settings_as_before_where_refused { OnErr result (self.new ≡ self.old) }
     {
         *self = Settings::new(proposal)?;
         Ok(())

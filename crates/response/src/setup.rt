@@ -36,7 +36,8 @@ pub struct Response {
 impl Rate {
     // The rate of so many mHz/s, which is refused outside the limits.
     pub fn new(mhz_per_s: u32) -> Result<Rate, Refusal>
-        ensures { Granted result (IsRate mhz_per_s) (λ rate. rate.mhz_per_s ≡ mhz_per_s) }
+        ensures granted_exactly_within_the_limits { Granted result (IsRate mhz_per_s)
+            (λ rate. rate.mhz_per_s ≡ mhz_per_s) }
     {
         Ok(Rate {
             mhz_per_s: within(LEAST_RATE, GREATEST_RATE, mhz_per_s)?,
@@ -47,7 +48,7 @@ impl Rate {
 impl Trigger {
     // The trigger at a dip, which is refused outside the limits.
     pub fn new(dip: u32) -> Result<Trigger, Refusal>
-        ensures { Granted result (IsTrigger dip) (λ trigger. trigger.dip ≡ dip) }
+        ensures granted_exactly_within_the_limits { Granted result (IsTrigger dip) (λ trigger. trigger.dip ≡ dip) }
     {
         Ok(Trigger {
             dip: within(LEAST_SWITCH, GREATEST_DIP, dip)?,
@@ -63,7 +64,9 @@ impl Response {
         dead_band: u32,
         switch_dip: Trigger,
     ) -> Result<Response, Refusal>
-        ensures { Granted result (IsReference reference_dip × IsDeadBand dead_band) (λ r. (r.rate ≡ rate) × (r.reference_dip ≡ reference_dip) × (r.dead_band ≡ dead_band) × (r.switch_dip ≡ switch_dip)) }
+        ensures granted_exactly_within_the_limits { Granted result (IsReference reference_dip × IsDeadBand dead_band)
+            (λ r. (r.rate ≡ rate) × (r.reference_dip ≡ reference_dip)
+            × (r.dead_band ≡ dead_band) × (r.switch_dip ≡ switch_dip)) }
     {
         Ok(Response {
             rate,

@@ -14,5 +14,5 @@ pub trait Task {
     ghost gives: { Self → Given → Outcome Self.Answer Refused };
 
     fn run(&self, settings: &Settings) -> Result<Self::Answer, Refusal>
-        ensures { result ≡ gives self.now settings.now };
+        ensures answers_what_the_task_gives { result ≡ gives self.now settings.now };
 }

@@ -19,9 +19,9 @@ pub struct Trial<'a> {
 impl<'a> Trial<'a> {
     // Begins a trial of the window.
     pub fn begin(settings: &'a mut Settings, window: BaseWindow) -> Trial<'a>
-        ensures lender { result.settings.ghost_name ≡ settings.entry.ghost_name }
-        ensures former { result.former ≡ settings.old.base }
-        ensures swapped { result.settings.now ≡ with_base settings.old window }
+        ensures holds_the_settings_lent { result.settings.ghost_name ≡ settings.entry.ghost_name }
+        ensures keeps_the_former_window { result.former ≡ settings.old.base }
+        ensures settings_with_the_new_window { result.settings.now ≡ with_base settings.old window }
     {
         let former = mem::replace(&mut settings.base, window);
         Trial { settings, former }
@@ -29,7 +29,7 @@ impl<'a> Trial<'a> {
 
     // The settings as the trial has them.
     pub fn settings(&self) -> &Settings
-        ensures { result.now ≡ self.now.settings.now }
+        ensures settings_as_the_trial_has_them { result.now ≡ self.now.settings.now }
     {
         &*self.settings
     }
@@ -41,10 +41,11 @@ impl<'a> Trial<'a> {
         end: u32,
         task: &T,
     ) -> Result<T::Answer, Refusal>
-        ensures lender { self.new.settings.ghost_name ≡ self.old.settings.ghost_name }
-        ensures same { self.new.settings.now ≡ self.old.settings.now }
-        ensures former { self.new.former ≡ self.old.former }
-        ensures answer { Tried (T.Task.gives task.now) self.old.settings.now begin end result }
+        ensures holds_the_same_settings { self.new.settings.ghost_name ≡ self.old.settings.ghost_name }
+        ensures settings_as_before { self.new.settings.now ≡ self.old.settings.now }
+        ensures former_window_as_before { self.new.former ≡ self.old.former }
+        ensures answered_with_the_trial_window_or_refused { Tried
+            (T.Task.gives task.now) self.old.settings.now begin end result }
     {
         self.settings.tried(begin, end, task)
     }
@@ -52,7 +53,7 @@ impl<'a> Trial<'a> {
 
 impl Drop for Trial<'_> {
     fn drop(self)
-        ensures { self.exit.0.now ≡ with_base self.entry.settings.now self.entry.former }
+        ensures former_window_put_back { self.exit.0.now ≡ with_base self.entry.settings.now self.entry.former }
     {
         let Trial { settings, former } = self;
         settings.base = former;
@@ -64,8 +65,8 @@ impl Drop for Trial<'_> {
 impl Settings {
     // What a task gives in a trial of the window.
     pub fn in_trial<T: Task>(&mut self, window: BaseWindow, task: &T) -> Result<T::Answer, Refusal>
-        ensures same { self.new ≡ self.old }
-        ensures answer { result ≡ T.Task.gives task.now (with_base self.old window) }
+        ensures settings_as_before { self.new ≡ self.old }
+        ensures answered_with_the_trial_window { result ≡ T.Task.gives task.now (with_base self.old window) }
     {
         let trial = Trial::begin(self, window);
         task.run(trial.settings())
@@ -74,8 +75,8 @@ impl Settings {
     // The same for a window that is not yet held against its limits. Two numbers and no `BaseWindow`, which
     // exists only within them.
     pub fn tried<T: Task>(&mut self, begin: u32, end: u32, task: &T) -> Result<T::Answer, Refusal>
-        ensures same { self.new ≡ self.old }
-        ensures answer { Tried (T.Task.gives task.now) self.old begin end result }
+        ensures settings_as_before { self.new ≡ self.old }
+        ensures answered_with_the_trial_window_or_refused { Tried (T.Task.gives task.now) self.old begin end result }
     {
         let window = BaseWindow::new(begin, end)?;
         self.in_trial(window, task)
@@ -88,8 +89,10 @@ impl Settings {
         second: BaseWindow,
         task: &T,
     ) -> Result<T::Answer, Refusal>
-        ensures same { self.new ≡ self.old }
-        ensures answer { result ≡ result_or (T.Task.gives task.now (with_base self.old first)) (T.Task.gives task.now (with_base self.old second)) }
+        ensures settings_as_before { self.new ≡ self.old }
+        ensures answered_with_the_first_window_or_the_second { result ≡ result_or
+            (T.Task.gives task.now (with_base self.old first))
+            (T.Task.gives task.now (with_base self.old second)) }
     {
         // No `or_else`: its contract leaves open what a closure that is not called, and holds the settings,
         // leaves of them.
@@ -106,8 +109,10 @@ impl Settings {
         outer: BaseWindow,
         task: &T,
     ) -> Result<(T::Answer, T::Answer), Refusal>
-        ensures same { self.new ≡ self.old }
-        ensures answer { result ≡ both_of (T.Task.gives task.now (with_base self.old inner)) (T.Task.gives task.now (with_base self.old outer)) }
+        ensures settings_as_before { self.new ≡ self.old }
+        ensures answered_with_both_windows_or_the_first_refusal { result ≡ both_of
+            (T.Task.gives task.now (with_base self.old inner))
+            (T.Task.gives task.now (with_base self.old outer)) }
     {
         let trial = Trial::begin(self, outer);
         let within = trial.settings.in_trial(inner, task)?;

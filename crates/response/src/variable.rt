@@ -25,9 +25,9 @@ impl ResponseRule for Variable {
     }
 
     fn weight(&self, dip: Dip, offset: Offset) -> Weight
-        ensures answer { Weighs result (factor_of self.now dip.mhz offset.ms) }
-        ensures kept { self.exit.now ≡ self.entry.now }
-        ensures rule { WeightOf self.now dip.mhz offset.ms (weight_value result) }
+        ensures answers_the_factor_of_the_rule { Weighs result (factor_of self.now dip.mhz offset.ms) }
+        ensures rule_as_before { self.exit.now ≡ self.entry.now }
+        ensures weight_as_the_rule_says { WeightOf self.now dip.mhz offset.ms (weight_value result) }
     {
         self.factor(dip, offset)
     }
@@ -54,5 +54,5 @@ impl Variable {
 
 // There is one ramp dip and one weight at each dip and offset, and the rule's factor has its value.
 pub fn variable_laws()
-    ensures { VariableLaws }
+    ensures one_ramp_dip_and_one_weight_at_each_dip { VariableLaws }
 {}

@@ -10,21 +10,22 @@ use std::alloc::{AllocError, Global};
 
 // The lines of a script, each up to its line feed. What follows the last line feed is a line too.
 pub fn lines(heap: Global, script: &str) -> Result<Vec<&str>, AllocError>
-    ensures { IfOk result (λ ls. texts_of ls.items ≡ lines_of script.now) }
+    ensures the_script_cut_at_its_line_feeds { IfOk result (λ ls. texts_of ls.items ≡ lines_of script.now) }
 {
     script.split('\n').collect(heap)
 }
 
 // The words of a line, with one space between two: two spaces have an empty word between them.
 pub fn words(heap: Global, line: &str) -> Result<Vec<&str>, AllocError>
-    ensures { IfOk result (λ ws. texts_of ws.items ≡ words_of line.now) }
+    ensures the_line_cut_at_its_spaces { IfOk result (λ ws. texts_of ws.items ≡ words_of line.now) }
 {
     line.split(' ').collect(heap)
 }
 
 // What words say, if they say something.
 pub fn command<'a>(words: &[&'a str]) -> Option<Command<'a>>
-    ensures { MatchOption result ((c : Said) → Says words.now c → ⊥) (λ c. Says words.now c) }
+    ensures the_command_that_the_words_say_or_none { MatchOption result
+        ((c : Said) → Says words.now c → ⊥) (λ c. Says words.now c) }
 {
     let (name, rest) = words.split_first()?;
     said(Verb::named(name)?, rest)
@@ -32,5 +33,5 @@ pub fn command<'a>(words: &[&'a str]) -> Option<Command<'a>>
 
 // Words say one command at most.
 pub fn one_command_is_said()
-    ensures { SaysOne }
+    ensures words_say_one_command_at_most { SaysOne }
 {}

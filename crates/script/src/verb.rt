@@ -32,7 +32,8 @@ pub enum Verb {
 impl Verb {
     // The verb with this name, if there is one.
     pub fn named(name: &str) -> Option<Verb>
-        ensures { MatchOption result ((v : First) → name.now ≢ name_of v) (λ v. name.now ≡ name_of v) }
+        ensures the_verb_of_this_name_or_none { MatchOption result
+            ((v : First) → name.now ≢ name_of v) (λ v. name.now ≡ name_of v) }
     {
         match name {
             "new" => Some(Verb::New),
@@ -63,5 +64,5 @@ impl Verb {
 
 // No two verbs have one name, so a line's first word names one verb at most.
 pub fn names_are_apart()
-    ensures { Apart }
+    ensures no_two_verbs_share_a_name { Apart }
 {}

@@ -17,12 +17,12 @@ pub trait Entry {
     const MOST: usize;
 
     fn time(&self) -> u32
-        ensures { result ≡ kind.time self.now };
+        ensures answers_the_time_of_the_entry { result ≡ kind.time self.now };
 
     // The first field that is outside its limits, if one is. A question: soundness asks it too, where
     // nothing is refused.
     fn outside(&self) -> Option<Field>
-        ensures { result ≡ kind.outside self.now };
+        ensures answers_the_first_field_outside { result ≡ kind.outside self.now };
 }
 
 // Whether each field of an entry is within its limits, where a field that is not sends a call back.

@@ -12,7 +12,7 @@ use recording::refusal::Reason;
 
 // Whether a table is the count's: it holds as many entries, within their limits and in order.
 pub fn check_table<E: Entry>(table: &[E], count: usize) -> Result<(), Reason>
-    ensures { Allows (other_table E.kind count table.now ∷ []) tt result }
+    ensures allowed_or_other_table { Allows (other_table E.kind count table.now ∷ []) tt result }
 {
     if is_sound(table, count) {
         Ok(())
@@ -23,7 +23,7 @@ pub fn check_table<E: Entry>(table: &[E], count: usize) -> Result<(), Reason>
 
 // Whether an entry may be put at the end.
 pub fn check_put<E: Entry>(table: &[E], count: usize, e: &E) -> Result<(), Reason>
-    ensures { Allows (put_checks E.kind count table.now e.now) tt result }
+    ensures allowed_or_the_first_fault_of_put { Allows (put_checks E.kind count table.now e.now) tt result }
 {
     let end = End::of(table, count);
     check_table(table, count)?;
@@ -33,7 +33,7 @@ pub fn check_put<E: Entry>(table: &[E], count: usize, e: &E) -> Result<(), Reaso
 
 // Whether the entry at a place may be replaced by another.
 pub fn check_amend<E: Entry>(table: &[E], count: usize, place: usize, e: &E) -> Result<(), Reason>
-    ensures { Allows (amend_checks E.kind count table.now place e.now) tt result }
+    ensures allowed_or_the_first_fault_of_amend { Allows (amend_checks E.kind count table.now place e.now) tt result }
 {
     check_strike(table, count, place)?;
     check_fields(e)?;
@@ -48,7 +48,7 @@ pub fn check_amend<E: Entry>(table: &[E], count: usize, place: usize, e: &E) -> 
 
 // Whether the entry at a place may be taken out.
 pub fn check_strike<E: Entry>(table: &[E], count: usize, place: usize) -> Result<(), Reason>
-    ensures { Allows (strike_checks E.kind count table.now place) tt result }
+    ensures allowed_or_the_first_fault_of_strike { Allows (strike_checks E.kind count table.now place) tt result }
 {
     check_table(table, count)?;
     if place < count {

@@ -13,7 +13,7 @@ pub(crate) fn is_misplaced(before: Option<u32>, after: Option<u32>, time: u32) -
 
 // The time of the entry before a place.
 pub fn time_before<E: Entry>(entries: &[E], place: usize) -> Option<u32>
-    ensures { result ≡ time_before E.kind entries.now place }
+    ensures time_of_the_entry_before_or_none { result ≡ time_before E.kind entries.now place }
 {
     let entry = entries.get(place.checked_sub(1)?)?;
     Some(entry.time())
@@ -29,14 +29,16 @@ pub(crate) fn time_after<E: Entry>(entries: &[E], place: usize) -> Option<u32>
 
 // Whether every entry is within its limits.
 fn are_within<E: Entry>(entries: &[E]) -> bool
-    ensures { Decides result ((i : ℕ) (d : E) → i < length entries.now → E.kind.outside (slice_index_or entries.now i d) ≡ None) }
+    ensures { Decides result ((i : ℕ) (d : E) → i < length entries.now
+        → E.kind.outside (slice_index_or entries.now i d) ≡ None) }
 {
     entries.iter().all(|entry| entry.outside().is_none())
 }
 
 // Whether each entry is earlier than the next.
 fn are_rising<E: Entry>(entries: &[E]) -> bool
-    ensures { Decides result ((i : ℕ) (d : E) → i + 1 < length entries.now → E.kind.time (slice_index_or entries.now i d) < E.kind.time (slice_index_or entries.now (i + 1) d)) }
+    ensures { Decides result ((i : ℕ) (d : E) → i + 1 < length entries.now
+        → E.kind.time (slice_index_or entries.now i d) < E.kind.time (slice_index_or entries.now (i + 1) d)) }
 {
     entries.is_sorted_by(|before, after| before.time() < after.time())
 }
@@ -44,8 +46,8 @@ fn are_rising<E: Entry>(entries: &[E]) -> bool
 // Whether a table holds as many entries as are counted, each within its limits and later than the
 // one before.
 pub fn is_sound<E: Entry>(table: &[E], count: usize) -> bool
-    ensures value { result ≡ is_sound E.kind count table.now }
-    ensures sound { Decides result (Sound E.kind count table.now) }
+    ensures as_computed_from_the_table { result ≡ is_sound E.kind count table.now }
+    ensures true_exactly_where_the_table_is_sound { Decides result (Sound E.kind count table.now) }
 {
     table
         .get(..count)

@@ -24,8 +24,8 @@ impl Entry for Sample {
     }
 
     fn outside(&self) -> Option<Field>
-        ensures value { result ≡ samples.outside self.now }
-        ensures the_first { TheFirst (sample_fields self.now) result }
+        ensures answers_the_first_field_outside { result ≡ samples.outside self.now }
+        ensures first_of_time_frequency_and_power { TheFirst (sample_fields self.now) result }
     {
         if !is_time(self.time) {
             return Some(Field::Time);

@@ -32,8 +32,8 @@ impl Entry for Target {
     }
 
     fn outside(&self) -> Option<Field>
-        ensures value { result ≡ targets.outside self.now }
-        ensures the_first { TheFirst (target_fields self.now) result }
+        ensures answers_the_first_field_outside { result ≡ targets.outside self.now }
+        ensures first_of_time_and_power { TheFirst (target_fields self.now) result }
     {
         if !is_time(self.time) {
             return Some(Field::Time);

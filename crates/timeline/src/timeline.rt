@@ -17,7 +17,8 @@ pub struct Timeline<'a, E> {
 impl<'a, E: Entry + Copy> Timeline<'a, E> {
     // Adds an entry at the end, and answers the new count.
     pub fn put(self, e: E) -> Result<usize, Refusal>
-        ensures { Puts E.kind self.entry.count self.entry.table.now e result self.exit.0.now }
+        ensures added_at_the_end_or_refused { Puts E.kind
+            self.entry.count self.entry.table.now e result self.exit.0.now }
     {
         let Timeline { table, count } = self;
         check_put(table, count, &e).map_err(|reason| reason.at(count))?;
@@ -26,7 +27,8 @@ impl<'a, E: Entry + Copy> Timeline<'a, E> {
 
     // Replaces the entry at a place, and answers the count.
     pub fn amend(self, place: usize, e: E) -> Result<usize, Refusal>
-        ensures { Amends E.kind self.entry.count self.entry.table.now place e result self.exit.0.now }
+        ensures replaced_at_the_place_or_refused { Amends E.kind
+            self.entry.count self.entry.table.now place e result self.exit.0.now }
     {
         let Timeline { table, count } = self;
         check_amend(table, count, place, &e).map_err(|reason| reason.at(place))?;
@@ -36,7 +38,8 @@ impl<'a, E: Entry + Copy> Timeline<'a, E> {
 
     // Takes the entry at a place out, and answers the new count.
     pub fn strike(self, place: usize) -> Result<usize, Refusal>
-        ensures { Strikes E.kind self.entry.count self.entry.table.now place result self.exit.0.now }
+        ensures taken_out_or_refused { Strikes E.kind
+            self.entry.count self.entry.table.now place result self.exit.0.now }
     {
         let Timeline { table, count } = self;
         check_strike(table, count, place).map_err(|reason| reason.at(place))?;
@@ -48,7 +51,7 @@ impl<'a, E: Entry + Copy> Timeline<'a, E> {
 // Adds an entry after the counted ones of a table that is known to be theirs: it looks at the last
 // of them only.
 pub fn append<E: Entry + Copy>(table: &mut [E], count: usize, e: E) -> Result<usize, Reason>
-    ensures { Appends E.kind count table.old e result table.new }
+    ensures added_at_the_end_or_refused { Appends E.kind count table.old e result table.new }
 {
     End::of(table, count).after(&e)?;
     Ok(add_last(table, count, e))

@@ -13,14 +13,14 @@ use Rattle.delivery.proofs.deliver.deliver.Goals as goal
 pub returns : goal.returns
 returns g c =
     let z : SFits w64 c.args.claim.enabled = search rules in
-    let row = c.row.ensures.value ∙ ap row_of c.group.ensures in
+    let row = c.row.ensures.row_of_the_group_in_the_table ∙ ap row_of c.group.ensures.group_in_the_list_of_services in
     let asked : Side → Row → ℤ → Asked = λ side row amount. asked_by c.args.trace.samples.now c.args.disturbance c.args.settings.now (g.R.ResponseRule.triggers c.args.rule.now) (g.R.ResponseRule.weighs c.args.rule.now) c.args.targets.now c.args.count side row amount in
     let side = (listed c.args.claim.service).side in
     let raw = to_z w64 (of_z w64 c.args.claim.enabled) in
-    let same = ap (λ (s : Side). asked s c.row.result raw) c.side.ensures ∙ ap (λ (r : Row). asked side r raw) row ∙ ap (asked side (row_of (listed c.args.claim.service).group)) (to_z-of_z w64 c.args.claim.enabled z) in
+    let same = ap (λ (s : Side). asked s c.row.result raw) c.side.ensures.side_in_the_list_of_services ∙ ap (λ (r : Row). asked side r raw) row ∙ ap (asked side (row_of (listed c.args.claim.service).group)) (to_z-of_z w64 c.args.claim.enabled z) in
     let h = claimed (asked c.side.result c.row.result (to_z w64 (of_z w64 c.args.claim.enabled))) _ c.deliver_over.result same c.deliver_over.ensures in
     record {
-      answer = h;
-      only = λ s d. one_answer _ s _ d h;
-      faithful = made_faithful _ _ c.args.trace.sound (subst SoundRow row c.row.ensures.sound) h;
+      the_report_of_the_steps_or_the_first_defect = h;
+      no_other_answer = λ s d. one_answer _ s _ d h;
+      less_than_a_watt_from_exact_and_fair = made_faithful _ _ c.args.trace.sound (subst SoundRow row c.row.ensures.windows_can_be_averaged) h;
     }

@@ -20,21 +20,21 @@ abbrev asked : (g : given.Over) → List Sample → Disturbance → Settings →
 asked g xs d settings rule table count terms = asked_by xs d settings (g.R.ResponseRule.triggers rule) (g.R.ResponseRule.weighs rule) table count terms.side terms.row terms.enabled
 
 pub returns-in_err-counted : goal.returns-in_err-counted
-returns-in_err-counted g c = refused_early (asked g c.args.trace.samples.now c.args.disturbance c.args.settings.now c.args.rule.now c.args.targets.now c.args.count c.args.terms) _ _ _ _ c.trigger-trigger.ensures.answer c.base.ensures c.recovery-recovered.ensures.first c.reached-triggered.ensures _ _ c.in_err-counted.ensures.defect c.from_residual.ensures.1
+returns-in_err-counted g c = refused_early (asked g c.args.trace.samples.now c.args.disturbance c.args.settings.now c.args.rule.now c.args.targets.now c.args.count c.args.terms) _ _ _ _ c.trigger-trigger.ensures.answers_the_trigger_or_none c.base.ensures.answers_the_base_window c.recovery-recovered.ensures.first_time_of_recovery_or_none c.reached-triggered.ensures _ _ c.in_err-counted.ensures.defect c.from_residual.ensures.1
 
 pub returns-in_err-shifted_by : goal.returns-in_err-shifted_by
 returns-in_err-shifted_by g c =
     let a = (asked g c.args.trace.samples.now c.args.disturbance c.args.settings.now c.args.rule.now c.args.targets.now c.args.count c.args.terms) in
     let lost = shift_lost _ _ _ c.shift.ensures.is c.in_err-shifted_by.was in
-    let none = shifts a _ _ _ _ c.trigger-trigger.ensures.answer c.base.ensures c.recovery-recovered.ensures.first c.reached-triggered.ensures lost.0 in
-    refused_never a _ _ _ _ c.trigger-trigger.ensures.answer c.base.ensures c.recovery-recovered.ensures.first c.reached-triggered.ensures c.in_ok-counted.ensures.defect _ _ (none, lost.1) c.from_residual-in_err-shifted_by.ensures.1
+    let none = shifts a _ _ _ _ c.trigger-trigger.ensures.answers_the_trigger_or_none c.base.ensures.answers_the_base_window c.recovery-recovered.ensures.first_time_of_recovery_or_none c.reached-triggered.ensures lost.0 in
+    refused_never a _ _ _ _ c.trigger-trigger.ensures.answers_the_trigger_or_none c.base.ensures.answers_the_base_window c.recovery-recovered.ensures.first_time_of_recovery_or_none c.reached-triggered.ensures c.in_ok-counted.ensures.defect _ _ (none, lost.1) c.from_residual-in_err-shifted_by.ensures.1
 
 pub returns-in_err-span_defect : goal.returns-in_err-span_defect
 returns-in_err-span_defect g c =
     let z : SFits w64 c.in_ok-shifted_by.shifted_by = search rules in
     let a = (asked g c.args.trace.samples.now c.args.disturbance c.args.settings.now c.args.rule.now c.args.targets.now c.args.count c.args.terms) in
-    let shifted = shifts a _ _ _ _ c.trigger-trigger.ensures.answer c.base.ensures c.recovery-recovered.ensures.first c.reached-triggered.ensures (shift_found _ _ _ c.shift.ensures.is c.in_ok-shifted_by.was) in
-    refused_late a _ _ _ _ c.trigger-trigger.ensures.answer c.base.ensures c.recovery-recovered.ensures.first c.reached-triggered.ensures c.in_ok-counted.ensures.defect c.in_ok-shifted_by.shifted_by shifted _ (simp (to_z-of_z w64 c.in_ok-shifted_by.shifted_by z) at c.placed_row-spans.ensures.first) (simp (to_z-of_z w64 c.in_ok-shifted_by.shifted_by z) at c.placed_row-spans.ensures.second) c.placed_row-spans.ensures.widest
+    let shifted = shifts a _ _ _ _ c.trigger-trigger.ensures.answers_the_trigger_or_none c.base.ensures.answers_the_base_window c.recovery-recovered.ensures.first_time_of_recovery_or_none c.reached-triggered.ensures (shift_found _ _ _ c.shift.ensures.is c.in_ok-shifted_by.was) in
+    refused_late a _ _ _ _ c.trigger-trigger.ensures.answers_the_trigger_or_none c.base.ensures.answers_the_base_window c.recovery-recovered.ensures.first_time_of_recovery_or_none c.reached-triggered.ensures c.in_ok-counted.ensures.defect c.in_ok-shifted_by.shifted_by shifted _ (simp (to_z-of_z w64 c.in_ok-shifted_by.shifted_by z) at c.placed_row-spans.ensures.first) (simp (to_z-of_z w64 c.in_ok-shifted_by.shifted_by z) at c.placed_row-spans.ensures.second) c.placed_row-spans.ensures.widest
     _ _ c.in_err-span_defect.ensures c.from_residual-in_err-span_defect.ensures.1
 
 pub basis-counted_from-requires : goal.basis-counted_from-requires
@@ -55,8 +55,8 @@ pub returns : goal.returns
 returns g c =
     let z : SFits w64 c.in_ok-shifted_by.shifted_by = search rules in
     let a = (asked g c.args.trace.samples.now c.args.disturbance c.args.settings.now c.args.rule.now c.args.targets.now c.args.count c.args.terms) in
-    let shifted = shifts a _ _ _ _ c.trigger-trigger.ensures.answer c.base.ensures c.recovery-recovered.ensures.first c.reached-triggered.ensures (shift_found _ _ _ c.shift.ensures.is c.in_ok-shifted_by.was) in
+    let shifted = shifts a _ _ _ _ c.trigger-trigger.ensures.answers_the_trigger_or_none c.base.ensures.answers_the_base_window c.recovery-recovered.ensures.first_time_of_recovery_or_none c.reached-triggered.ensures (shift_found _ _ _ c.shift.ensures.is c.in_ok-shifted_by.was) in
     let first = simp (to_z-of_z w64 c.in_ok-shifted_by.shifted_by z) at c.placed_row-spans.ensures.first in
     let second = simp (to_z-of_z w64 c.in_ok-shifted_by.shifted_by z) at c.placed_row-spans.ensures.second in
-    reported a _ _ _ _ c.trigger-trigger.ensures.answer c.base.ensures c.recovery-recovered.ensures.first c.reached-triggered.ensures c.in_ok-counted.ensures.defect c.in_ok-shifted_by.shifted_by shifted _ first second c.placed_row-spans.ensures.widest _ c.in_ok-span_defect.ensures
-    (fills a _ _ c.basis-counted_from.result _ c.in_ok-counted.counted.all.now _ _ c.base.ensures first second c.basis-counted_from.ensures.time c.in_ok-counted.ensures.counted c.basis-counted_from.ensures.base _ _ c.window_values-values.ensures.first c.window_values-values.ensures.second c.judged.ensures)
+    reported a _ _ _ _ c.trigger-trigger.ensures.answers_the_trigger_or_none c.base.ensures.answers_the_base_window c.recovery-recovered.ensures.first_time_of_recovery_or_none c.reached-triggered.ensures c.in_ok-counted.ensures.defect c.in_ok-shifted_by.shifted_by shifted _ first second c.placed_row-spans.ensures.widest _ c.in_ok-span_defect.ensures
+    (fills a _ _ c.basis-counted_from.result _ c.in_ok-counted.counted.all.now _ _ c.base.ensures.answers_the_base_window first second c.basis-counted_from.ensures.time c.in_ok-counted.ensures.counted c.basis-counted_from.ensures.base _ _ c.window_values-values.ensures.first c.window_values-values.ensures.second c.judged.ensures)

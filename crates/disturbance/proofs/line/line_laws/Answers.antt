@@ -2,4 +2,4 @@ use Rattle.exact.proofs.Lines.{through_ends}
 use Rattle.disturbance.proofs.line.line_laws.Goals as goal
 
 pub returns : goal.returns
-returns c = through_ends
+returns c = record { line_goes_through_both_samples = through_ends }

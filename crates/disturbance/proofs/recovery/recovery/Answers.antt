@@ -15,4 +15,4 @@ returns c =
     let r = c.first_above.result in
     let passed = subst (λ (side : Direction). FirstOrNone (PassedFrom xs side (nominal - recovery_dip) true (d.time + 1)) r) c.other.ensures c.first_above.ensures in
     let h : FirstOrNone (Recovered xs d) r = recovery_from xs c.args.trace.sound d r passed in
-    record { first = h; only = λ o k. answer_unique (Recovered xs d) o r k h }
+    record { first_time_of_recovery_or_none = h; no_other_answer = λ o k. answer_unique (Recovered xs d) o r k h }

@@ -9,8 +9,8 @@ returns g c =
     record {
       disturbance = c.args.disturbance;
       disturbed = disturbed c.args.trace.samples.now c.args.disturbance c.args.trace.sound c.requires;
-      answer = said.answer;
-      only = said.only;
-      faithful = said.faithful;
-      refused = refused_by_defects _ _ said.answer;
+      the_report_of_the_steps_or_the_first_defect = said.the_report_of_the_steps_or_the_first_defect;
+      no_other_answer = said.no_other_answer;
+      less_than_a_watt_from_exact_and_fair = said.less_than_a_watt_from_exact_and_fair;
+      refused_exactly_where_a_defect_applies = refused_by_defects _ _ said.the_report_of_the_steps_or_the_first_defect;
     }

@@ -7,4 +7,4 @@ use Rattle.examples.proofs.ties.tie_down.Goals as goal
 
 pub returns : goal.returns
 unfolding of_bits neg
-returns c = record { rule = tied true (negsuc 7811) down_is; value = c.sample.ensures.value ∙ (ap sampled c.reading_of.ensures ∙ down_is) }
+returns c = record { the_rule_gives_minus_7812_watts_alone = tied true (negsuc 7811) down_is; answers_minus_7812_watts = c.sample.ensures.as_computed_from_the_fields ∙ (ap sampled c.reading_of.ensures ∙ down_is) }

@@ -7,4 +7,4 @@ use Rattle.examples.proofs.ties.tie_up.Goals as goal
 
 pub returns : goal.returns
 unfolding of_bits neg
-returns c = record { rule = tied false (pos 7813) up_is; value = c.sample.ensures.value ∙ (ap sampled c.reading_of.ensures ∙ up_is) }
+returns c = record { the_rule_gives_7813_watts_alone = tied false (pos 7813) up_is; answers_7813_watts = c.sample.ensures.as_computed_from_the_fields ∙ (ap sampled c.reading_of.ensures ∙ up_is) }

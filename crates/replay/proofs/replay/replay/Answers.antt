@@ -15,5 +15,5 @@ loop-place-preserved c =
 
 pub returns : goal.returns
 returns c =
-    let text = told_all _ _ _ c.loop-place.place _ _ c.in_ok-session.ensures (ap texts_of c.deref-line-items.ensures.value ∙ c.in_ok-lines.ensures) (omega (arith, c.loop-place-test.false, c.loop-place.auto.place-end)) c.loop-place.invariant in
-    record { text = text; only = λ other h. replays_once _ _ _ h text }
+    let text = told_all _ _ _ c.loop-place.place _ _ c.in_ok-session.ensures.starts_fresh_with_plain_settings (ap texts_of c.deref-line-items.ensures.value ∙ c.in_ok-lines.ensures.the_script_cut_at_its_line_feeds) (omega (arith, c.loop-place-test.false, c.loop-place.auto.place-end)) c.loop-place.invariant in
+    record { answers_each_line_in_its_session = text; no_other_text = λ other h. replays_once _ _ _ h text }

@@ -9,4 +9,4 @@ returns g c =
     let xs = c.args.entries.now in
     let (some, back) = c.in_ok-checked_sub.ensures in
     let there = c.in_ok-entry.ensures.lookup in
-    ap Some c.time.ensures ∙ sym (before_at kind xs c.args.place some ∙ ap (slice_get (map kind.time xs)) (sym back) ∙ time_at kind xs c.in_ok-checked_sub.field-0 c.in_ok-entry.entry.now there.3.0 there.1)
+    record { time_of_the_entry_before_or_none = ap Some c.time.ensures.answers_the_time_of_the_entry ∙ sym (before_at kind xs c.args.place some ∙ ap (slice_get (map kind.time xs)) (sym back) ∙ time_at kind xs c.in_ok-checked_sub.field-0 c.in_ok-entry.entry.now there.3.0 there.1) }

@@ -1,7 +1,8 @@
 use Rattle.std.proofs.Common.{rules, tests}
 use Rattle.std.proofs.lemmas.Iterator.{cases_from_any, YieldsList-from_slice}
-use Rattle.figure.specs.Points.{turned, origin}
+use Rattle.figure.specs.Points.{turned}
 use Rattle.figure.specs.Steps.{is_base}
+use Rattle.delivery.proofs.Courses.{origin}
 use Rattle.delivery.proofs.Keeping.{Misses, misses_decided}
 use Rattle.delivery.proofs.Reaching.{nothing}
 use Rattle.delivery.proofs.footing.Footing.misses_one.Goals as goal

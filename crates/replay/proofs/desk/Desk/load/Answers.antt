@@ -2,4 +2,4 @@
 use Rattle.replay.proofs.desk.Desk.load.Goals as goal
 
 pub returns : goal.returns
-returns c = λ ms made. rw (c.new-recording.ensures.only ms made) c.call.ensures
+returns c = λ ms made. rw (c.new-recording.ensures.no_other_members ms made) c.call.ensures

@@ -4,5 +4,7 @@ use Rattle.timeline.proofs.timeline.Timeline.amend.Goals as goal
 
 pub returns : goal.returns
 returns g c =
-    amend_accepted g.E.Entry.kind c.args.self.count c.args.self.table.now c.args.place c.args.e c.check_amend.ensures.first
-    (no_fault _ _ _ _ _ c.check_amend.ensures.answer c.map_err.ensures.variant c.in_ok-map_err.was)
+    record {
+      replaced_at_the_place_or_refused = amend_accepted g.E.Entry.kind c.args.self.count c.args.self.table.now c.args.place c.args.e c.check_amend.ensures.allowed_or_the_first_fault_of_amend.first
+          (no_fault _ _ _ _ _ c.check_amend.ensures.allowed_or_the_first_fault_of_amend.answer c.map_err.ensures.variant c.in_ok-map_err.was);
+    }

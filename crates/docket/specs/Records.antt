@@ -1,0 +1,64 @@
+-- What holds of every accepted record, whatever the calls that led to it, and what each accepted call makes of its samples.
+use Rattle.std.specs.Prelude.{◌≡◌, ℕ, ◌≤◌, List, [], ◌∷◌, ◌++◌, length, Ok}
+use Rattle.recording.specs.declared.sample.Sample.{Sample}
+use Rattle.recording.specs.declared.reading.Reading.{Reading}
+use Rattle.recording.specs.Readings.{Gives}
+use Rattle.disturbance.specs.Trace.{Sound}
+use Rattle.docket.specs.Accepted.{Accepted, samples_of, put_record, put_answer, amend_record, amend_answer, strike_record, strike_answer, close_answer}
+use Rattle.docket.specs.History.{History}
+use Rattle.docket.specs.Dockets.{ClosesExactly}
+
+-- samples within their limits, at times that strictly rise; with places in a table of so many, and at most 4,096
+pub record IsTimeline (places : ℕ) (xs : List Sample) : Type 0 where
+  pub sound : Sound xs
+  pub room : length xs ≤ places
+  pub few : length xs ≤ 4096
+
+-- the accepted samples are, after any history
+abbrev pub RecordsAreTimelines : Type 0
+RecordsAreTimelines = (places : ℕ) (a : Accepted) → History places a → IsTimeline places (samples_of a)
+
+-- and what close says of them is what the rule of the disturbance says
+abbrev pub RecordsCloseExactly : Type 0
+RecordsCloseExactly = (places : ℕ) (a : Accepted) → History places a → ClosesExactly (samples_of a) (close_answer (samples_of a))
+
+-- ys are the samples xs with the one that the reading gives at the end
+pub record AddedAtTheEnd (xs : List Sample) (r : Reading) (ys : List Sample) : Type 0 where
+  pub sample : Sample
+  pub gives : Gives r sample
+  pub are : ys ≡ xs ++ sample ∷ []
+
+-- ys are the samples xs, at place i the one that the reading gives and every other as it was
+pub record ReplacedAt (i : ℕ) (xs : List Sample) (r : Reading) (ys : List Sample) : Type 0 where
+  pub before : List Sample
+  pub old : Sample
+  pub sample : Sample
+  pub later : List Sample
+  pub place : length before ≡ i
+  pub were : xs ≡ before ++ old ∷ later
+  pub gives : Gives r sample
+  pub are : ys ≡ before ++ sample ∷ later
+
+-- ys are the samples xs without the one at place i
+pub record TakenOutAt (i : ℕ) (xs ys : List Sample) : Type 0 where
+  pub before : List Sample
+  pub old : Sample
+  pub later : List Sample
+  pub place : length before ≡ i
+  pub were : xs ≡ before ++ old ∷ later
+  pub are : ys ≡ before ++ later
+
+-- an accepted put, amend and strike do that to the accepted samples, and answer how many there are then
+abbrev pub PutsAdd : Type 0
+PutsAdd =
+    (places : ℕ) (xs : List Sample) (r : Reading) (n : ℕ) → put_answer places xs r ≡ Ok n
+    → AddedAtTheEnd xs r (put_record places xs r) × (n ≡ length (put_record places xs r))
+
+abbrev pub AmendsReplace : Type 0
+AmendsReplace =
+    (xs : List Sample) (i : ℕ) (r : Reading) (n : ℕ) → amend_answer xs i r ≡ Ok n
+    → ReplacedAt i xs r (amend_record xs i r) × (n ≡ length (amend_record xs i r))
+
+abbrev pub StrikesTakeOut : Type 0
+StrikesTakeOut =
+    (xs : List Sample) (i n : ℕ) → strike_answer xs i ≡ Ok n → TakenOutAt i xs (strike_record xs i) × (n ≡ length (strike_record xs i))
