@@ -24,7 +24,7 @@ TOKEN = re.compile(r"//[^\n]*|\s+|'\w+|(\d[\d_]*|\w+|::|->|\.\.|[^\w\s])")
 CLOSING = {"(": ")", "[": "]", "{": "}"}
 KINDS = {
     "Case": SimpleNamespace,
-    "Claim": SimpleNamespace,
+    "Enablement": SimpleNamespace,
     "Constant": lambda weight, trigger: Rule(trigger, lambda dip, offset: weight),
     "Growing": lambda trigger: Rule(trigger, lambda dip, offset: min(1 + Fraction(offset, 100), Fraction(3))),
     "Proposal": Settings,
@@ -191,7 +191,7 @@ def read_function(text):
 
 def ruled(asked, rule):
     return Case(
-        list(asked.samples), asked.settings, rule, list(asked.targets), asked.count, asked.claim.service, asked.claim.enabled
+        list(asked.samples), asked.settings, rule, list(asked.targets), asked.count, asked.enablement.service, asked.enablement.watts
     )
 
 

@@ -1,6 +1,4 @@
-pub mod Taking
 pub mod Running
 pub mod Once
 pub mod Promising
 pub mod Refusals
-pub mod LedTo

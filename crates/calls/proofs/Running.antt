@@ -1,5 +1,5 @@
 -- Calls run one after the other: what has been answered, and where the docket and its table stand.
-use Rattle.std.proofs.Common.{◌≡◌, ℕ, suc, ◌+◌, ◌<◌, Bool, cond, min, List, [], ◌∷◌, ◌++◌, length, map, get_or, take, drop, set, Some, None, Ok, Err, Result, sym, refl, ap, ◌∙◌, subst, arith, append_assoc, append-nil, add-one}
+use Rattle.std.proofs.Common.{◌≡◌, ℕ, suc, ◌+◌, ◌<◌, Bool, cond, min, List, [], ◌∷◌, ◌++◌, length, map, get_or, take, drop, set, Some, None, Ok, Err, Result, MatchOption, sym, refl, ap, ◌∙◌, subst, arith, append_assoc, append-nil, add-one}
 use Rattle.std.proofs.lemmas.List.{length_push, length-take, length-map, take-map, get_or-take, get_or-map}
 use Rattle.std.proofs.Math.Seq.{drop-cons, set-append_seam}
 use Rattle.std.proofs.lemmas.Bool.{lt-ltb, le-ltb}
@@ -7,38 +7,33 @@ use Rattle.recording.specs.declared.sample.Sample.{Sample}
 use Rattle.timeline.specs.Timelines.{over}
 use Rattle.docket.specs.declared.docket.OpenDocket.{OpenDocket}
 use Rattle.docket.specs.Accepted.{Accepted, opened, samples_of}
-use Rattle.docket.specs.History.{History, new}
-use Rattle.docket.specs.Dockets.{LeadsOpen}
+use Rattle.docket.specs.declared.docket.State.{State}
+use Rattle.docket.specs.declared.docket.State.TheVariants.{Open}
+use Rattle.docket.specs.Calls.{Meaning, Outcome}
+use Rattle.docket.specs.Steps.{Step, Unoffered, History}
+use Rattle.docket.specs.Dockets.{record_of, Holds, Follows}
+use Rattle.docket.proofs.Histories.{grown_history}
 use Rattle.calls.specs.declared.answer.Answer.{Answer}
 use Rattle.calls.specs.declared.run.NotOffered.{NotOffered}
-use Rattle.calls.specs.declared.turn.State.{State}
-use Rattle.calls.specs.declared.turn.State.TheVariants.{Open, Closed}
 use Rattle.calls.specs.declared.turn.Turn.{Turn}
-use Rattle.calls.specs.Calls.{Meaning}
-use Rattle.calls.specs.States.{Leads, Took, TakesTurn}
+use Rattle.calls.specs.Answers.{told as tell}
+use Rattle.calls.specs.States.{TakesTurn}
 use Rattle.calls.specs.Runs.{Runs, ended, Ran}
 
 -- after so many of the calls cs, started on the table t: what is still to come from here, come after what has been told, is a run from the start
 pub record Running (t : List Sample) (cs : List Meaning) (places : List Answer) (place : ℕ) (state : State) (table : List Sample) (answers : List Answer) : Type 0 where
   pub accepted : Accepted
   pub history : History (length t) accepted
-  pub leads : Leads history state table
+  pub holds : Holds (length t) accepted state table
   pub told : List Answer
   pub count : length told ≡ place
   pub written : answers ≡ over told places
   pub runs : (more : List Answer) (left : List Sample) → Runs (length t) accepted table (drop place cs) more left → Runs (length t) (opened []) t cs (told ++ more) left
 
-pub begun : (t : List Sample) (cs : List Meaning) (places : List Answer) (d : OpenDocket) → LeadsOpen {places = length t} new d t → Running t cs places 0 (Open d) t places
-begun t cs places d leads = record { accepted = opened []; history = new; leads = leads; told = []; count = refl; written = refl; runs = λ more left r. r }
+pub begun : (t : List Sample) (cs : List Meaning) (places : List Answer) (d : OpenDocket) → Holds (length t) (opened []) (Open d) t → Running t cs places 0 (Open d) t places
+begun t cs places d holds = record { accepted = opened []; history = ([], refl); holds = holds; told = []; count = refl; written = refl; runs = λ more left r. r }
 
 -- ---- one turn
-leads_places : {places : ℕ} {a : Accepted} (h : History places a) (state : State) (table : List Sample) → Leads h state table → length table ≡ places
-leads_places h (Open d) table leads = leads.table_is
-leads_places h (Closed d) table leads = leads.table_is
-
-took : (state : State) (table : List Sample) (c : Meaning) (turn : Turn) (left : List Sample) → TakesTurn state table c turn left → (places : ℕ) → length table ≡ places → (a : Accepted) (h : History places a) → Leads h state table → Took places a h c table turn.answer turn.state left
-took state table c turn left takes places e = subst (λ (n : ℕ). (a : Accepted) (h : History n a) → Leads h state table → Took n a h c table turn.answer turn.state left) e takes
-
 written_next : (told places : List Answer) (i : ℕ) (x : Answer) → length told ≡ i → i < length places → set (over told places) i x ≡ over (told ++ x ∷ []) places
 written_next told places i x n lt =
     let e : drop (length told) places ≡ get_or places i x ∷ drop (suc i) places = ap (λ k. drop k places) n ∙ drop-cons places i x lt in
@@ -50,23 +45,24 @@ pub turned : (t : List Sample) (cs : List Meaning) (places : List Answer) (i : �
     → (c : Meaning) → drop i cs ≡ c ∷ drop (i + 1) cs → i < length places → (turn : Turn) (left : List Sample) → TakesTurn state table c turn left → (x : Answer) → turn.answer ≡ Some x
     → Running t cs places (i + 1) turn.state left (set answers i x)
 turned t cs places i state table answers run c next lt turn left takes x told =
-    let k : Took (length t) run.accepted run.history c table (Some x) turn.state left =
-    subst (λ o. Took (length t) run.accepted run.history c table o turn.state left) told (took state table c turn left takes (length t) (leads_places run.history state table run.leads) run.accepted run.history run.leads) in
-    by k
+    by (subst (λ o. MatchOption o (Unoffered (record_of state table) c × (left ≡ table)) (λ x. (outcome : Outcome) × (x ≡ tell outcome) × Follows state table c outcome turn.state left)) told takes)
   where
-    by : Took (length t) run.accepted run.history c table (Some x) turn.state left → Running t cs places (i + 1) turn.state left (set answers i x)
-    by (after, turns, laid, (g, leads)) = record {
+    step : (outcome : Outcome) → x ≡ tell outcome → (next : Accepted) × Step (length t) run.accepted c outcome next × Holds (length t) next turn.state left × (left ≡ over (samples_of next) table) → Running t cs places (i + 1) turn.state left (set answers i x)
+    step outcome is (after, taken, holds, laid) = record {
       accepted = after;
-      history = g;
-      leads = leads;
+      history = grown_history _ _ _ _ _ run.history taken;
+      holds = holds;
       told = run.told ++ x ∷ [];
       count = length_push run.told x ∙ ap (λ k. k + 1) run.count;
       written = ap (λ ys. set ys i x) run.written ∙ written_next run.told places i x run.count lt;
       runs = λ more end r.
           let r' : Runs (length t) after (over (samples_of after) table) (drop (i + 1) cs) more end = subst (λ ys. Runs (length t) after ys (drop (i + 1) cs) more end) laid r in
-          let all = run.runs (x ∷ more) end (subst (λ ys. Runs (length t) run.accepted table ys (x ∷ more) end) (sym next) (after, turns, r')) in
+          let all = run.runs (x ∷ more) end (subst (λ ys. Runs (length t) run.accepted table ys (x ∷ more) end) (sym next) (outcome, after, taken, is, r')) in
           subst (λ ys. Runs (length t) (opened []) t cs ys end) (sym (append_assoc run.told (x ∷ []) more)) all;
     }
+
+    by : (outcome : Outcome) × (x ≡ tell outcome) × Follows state table c outcome turn.state left → Running t cs places (i + 1) turn.state left (set answers i x)
+    by (outcome, is, follows) = step outcome is (follows (length t) run.accepted run.history run.holds)
 
 -- ---- the end of the list, or a call that is not offered
 ran : (t : List Sample) (calls : List Meaning) (places : List Answer) (r : Result ℕ NotOffered) (left : List Sample) (filled told : List Answer) → Runs (length t) (opened []) t (take (length places) calls) (told ++ []) left
@@ -94,8 +90,9 @@ pub stopped : (t : List Sample) (calls : List Meaning) (places : List Answer) (i
     → Ran t calls places (Err (record { place = i })) left answers
 stopped t calls places i state table answers run c next lt turn left takes told =
     let cs = take (length places) calls in
-    let k : Took (length t) run.accepted run.history c table None turn.state left =
-    subst (λ o. Took (length t) run.accepted run.history c table o turn.state left) told (took state table c turn left takes (length t) (leads_places run.history state table run.leads) run.accepted run.history run.leads) in
+    let none : Unoffered (record_of state table) c × (left ≡ table) =
+    subst (λ o. MatchOption o (Unoffered (record_of state table) c × (left ≡ table)) (λ x. (outcome : Outcome) × (x ≡ tell outcome) × Follows state table c outcome turn.state left)) told takes in
+    let k : Unoffered run.accepted c × (left ≡ table) = (subst (λ a. Unoffered a c) (sym run.holds.record_is) none.0, none.1) in
     let r = run.runs [] left (subst (λ ys. Runs (length t) run.accepted table ys [] left) (sym next) k) in
     ran t calls places (Err (record { place = i })) left answers run.told r (ap (λ n. Err (record { place = n })) (sym run.count) ∙ cut_short (length run.told) (length cs) (omega (arith, run.count, lt))) run.written
   where

@@ -1,19 +1,10 @@
--- What a call brings, and the answer that tells it.
-use Rattle.std.specs.Prelude.{ℕ, Ok, Err, Result}
-use Rattle.recording.specs.declared.refusal.Refusal.{Refusal}
-use Rattle.disturbance.specs.declared.disturbance.Disturbance.{Disturbance}
-use Rattle.figure.specs.declared.report.Report.{Report}
+-- The answer that tells what a call brings.
+use Rattle.std.specs.Prelude.{Ok, Err}
+use Rattle.docket.specs.Calls.{Outcome, counted, closed_on, reported, reopened}
 use Rattle.calls.specs.declared.answer.Answer.{Answer}
 use Rattle.calls.specs.declared.answer.Answer.TheVariants.{Counted, Closed, Reported, Reopened, Refused}
 
--- put, load, amend and strike bring a count of samples, close a disturbance, deliver a report, or each of them a refusal; reopen always opens
-pub data Outcome : Type 0 where
-  counted : Result ℕ Refusal → Outcome
-  closed_on : Result Disturbance Refusal → Outcome
-  reported : Result Report Refusal → Outcome
-  reopened : Outcome
-
--- the answer: what is brought, or its refusal
+-- what is brought, or its refusal
 abbrev pub told : Outcome → Answer
 told (counted (Ok count)) = Counted count
 told (counted (Err refusal)) = Refused refusal

@@ -1,6 +1,5 @@
 pub mod Answers
 pub mod Calls
-pub mod Turns
 pub mod States
 pub mod Runs
 pub mod Promises

@@ -3,17 +3,21 @@ use Rattle.std.specs.Prelude.{◌≡◌, ℕ, cond, List, [], ◌∷◌, length,
 use Rattle.recording.specs.declared.sample.Sample.{Sample}
 use Rattle.timeline.specs.Timelines.{over}
 use Rattle.docket.specs.Accepted.{Accepted, opened, samples_of}
+use Rattle.docket.specs.Calls.{Meaning, Outcome}
+use Rattle.docket.specs.Steps.{Step, Unoffered}
 use Rattle.calls.specs.declared.answer.Answer.{Answer}
 use Rattle.calls.specs.declared.run.NotOffered.{NotOffered}
-use Rattle.calls.specs.Calls.{Meaning}
-use Rattle.calls.specs.Turns.{Turns, Unoffered}
+use Rattle.calls.specs.Answers.{told}
 
--- from an accepted record and a table, the calls have these answers in turn, up to the first that is not offered; each lays the accepted samples over the table's front
+-- from an accepted record and a table, the calls are steps with these answers, up to the first that is not offered; each lays
+-- the accepted samples over the table's front
 abbrev pub Runs : ℕ → Accepted → List Sample → List Meaning → List Answer → List Sample → Type 0
 Runs places a table [] [] left = left ≡ table
 Runs places a table [] (x ∷ answers) left = ⊥
 Runs places a table (c ∷ calls) [] left = Unoffered a c × (left ≡ table)
-Runs places a table (c ∷ calls) (x ∷ answers) left = (next : Accepted) × Turns places a c x next × Runs places next (over (samples_of next) table) calls answers left
+Runs places a table (c ∷ calls) (x ∷ answers) left =
+    (outcome : Outcome) × (next : Accepted) × Step places a c outcome next
+    × (x ≡ told outcome) × Runs places next (over (samples_of next) table) calls answers left
 
 -- how many calls were answered: all of them, or those before the one that is not offered
 abbrev pub ended : (answered calls : ℕ) → Result ℕ NotOffered

@@ -1,6 +1,7 @@
 // What a call answers.
 ghost use Rattle.std.specs.Prelude.{◌≡◌};
-ghost use Rattle.calls.specs.Answers.{told, counted, reported};
+ghost use Rattle.docket.specs.Calls.{counted, reported};
+ghost use Rattle.calls.specs.Answers.{told};
 
 use disturbance::disturbance::Disturbance;
 use figure::report::Report;

@@ -1,5 +1,5 @@
 // A call on a docket, as it is written into a list.
-use docket::request::Request;
+use figure::request::Request;
 use recording::reading::Reading;
 
 // One of the seven calls with its arguments, but for the docket and its table.

@@ -4,13 +4,13 @@ ghost use Rattle.recording.specs.declared.sample.Sample.{Sample as Taken};
 ghost use Rattle.calls.specs.declared.answer.Answer.{Answer as Told};
 ghost use Rattle.calls.specs.declared.run.NotOffered.{NotOffered as Stopped};
 ghost use Rattle.calls.specs.Calls.{meaning_of};
-ghost use Rattle.calls.specs.Promises.{EveryDelivery};
+ghost use Rattle.calls.specs.Promises.{EveryAnswer, EveryDelivery};
 ghost use Rattle.calls.specs.Runs.{Ran};
 
 use crate::answer::Answer;
 use crate::call::Call;
-use crate::turn::State;
-use docket::docket::OpenDocket;
+use crate::turn::take;
+use docket::docket::{OpenDocket, State};
 use recording::interface::Recording;
 use recording::sample::Sample;
 use response::rule::ResponseRule;
@@ -31,8 +31,12 @@ pub fn run<R: Recording, P: ResponseRule>(
     ensures answers_as_the_accepted_record { Ran table.old
         (map (meaning_of R.meaning P.ResponseRule.triggers P.ResponseRule.weighs) calls.now)
         answers.old result table.new answers.new }
+    ensures every_answer_is_that_of_its_record { EveryAnswer (length table.old)
+        (map (meaning_of R.meaning P.ResponseRule.triggers P.ResponseRule.weighs) calls.now)
+        result answers.new }
     ensures every_delivery_is_that_of_its_record { EveryDelivery (length table.old)
-        (map (meaning_of R.meaning P.ResponseRule.triggers P.ResponseRule.weighs) calls.now) result answers.new }
+        (map (meaning_of R.meaning P.ResponseRule.triggers P.ResponseRule.weighs) calls.now)
+        result answers.new }
     ensures no_other_answer { (r : Either ℕ Stopped) (left : List Taken) (filled : List Told)
         → Ran table.old
         (map (meaning_of R.meaning P.ResponseRule.triggers P.ResponseRule.weighs) calls.now)
@@ -43,7 +47,7 @@ pub fn run<R: Recording, P: ResponseRule>(
     let count = calls.len().min(answers.len());
     // By place: calls are read and answers written, each from a list of its own.
     for place in 0..count {
-        let turn = state.take(table, calls[place]);
+        let turn = take(state, table, calls[place]);
         state = turn.state;
         let Some(answer) = turn.answer else {
             return Err(NotOffered { place });

@@ -1,21 +1,15 @@
 // One call on a docket in either state.
-ghost use Rattle.calls.specs.Calls.{meaning_of, close};
+ghost use Rattle.docket.specs.Calls.{of_open, close};
+ghost use Rattle.calls.specs.Calls.{meaning_of};
 ghost use Rattle.calls.specs.Outcomes.{Does};
 ghost use Rattle.calls.specs.States.{TakesTurn};
 
 use crate::answer::Answer;
 use crate::call::Call;
-use docket::docket::{ClosedDocket, Kept, OpenDocket};
+use docket::docket::{ClosedDocket, Kept, OpenDocket, State};
 use recording::interface::Recording;
 use recording::sample::Sample;
 use response::rule::ResponseRule;
-
-// A docket in either state.
-#[derive(Drop)]
-pub enum State {
-    Open(OpenDocket),
-    Closed(ClosedDocket),
-}
 
 // A docket after a call, and the answer, if its state offers the call.
 #[derive(Drop)]
@@ -31,9 +25,11 @@ fn open_turn<R: Recording, P: ResponseRule>(
     call: Call<'_, R, P>,
 ) -> Turn
     ensures answers_as_the_accepted_record { TakesTurn (State.Open docket) table.old
-        (meaning_of R.meaning P.ResponseRule.triggers P.ResponseRule.weighs call.entry) result table.new }
+        (meaning_of R.meaning P.ResponseRule.triggers P.ResponseRule.weighs call.entry)
+        result table.new }
     ensures answers_as_the_docket_and_its_table { Does (State.Open docket) table.old
-        (meaning_of R.meaning P.ResponseRule.triggers P.ResponseRule.weighs call.entry) result table.new }
+        (meaning_of R.meaning P.ResponseRule.triggers P.ResponseRule.weighs call.entry)
+        result table.new }
 {
     let answer = match call {
         Call::Put(reading) => Some(docket.put(table, reading).into()),
@@ -51,8 +47,10 @@ fn open_turn<R: Recording, P: ResponseRule>(
 
 // Closing an open docket.
 fn close_turn(docket: OpenDocket, table: &[Sample]) -> Turn
-    ensures answers_as_the_accepted_record { TakesTurn (State.Open docket) table.now close result table.now }
-    ensures answers_as_the_docket_and_its_table { Does (State.Open docket) table.now close result table.now }
+    ensures answers_as_the_accepted_record { TakesTurn (State.Open docket) table.now
+        (of_open close) result table.now }
+    ensures answers_as_the_docket_and_its_table { Does (State.Open docket) table.now
+        (of_open close) result table.now }
 {
     match docket.close(table) {
         Ok(docket) => {
@@ -76,9 +74,11 @@ fn closed_turn<R: Recording, P: ResponseRule>(
     call: Call<'_, R, P>,
 ) -> Turn
     ensures answers_as_the_accepted_record { TakesTurn (State.Closed docket) table.now
-        (meaning_of R.meaning P.ResponseRule.triggers P.ResponseRule.weighs call.entry) result table.now }
+        (meaning_of R.meaning P.ResponseRule.triggers P.ResponseRule.weighs call.entry)
+        result table.now }
     ensures answers_as_the_docket_and_its_table { Does (State.Closed docket) table.now
-        (meaning_of R.meaning P.ResponseRule.triggers P.ResponseRule.weighs call.entry) result table.now }
+        (meaning_of R.meaning P.ResponseRule.triggers P.ResponseRule.weighs call.entry)
+        result table.now }
 {
     let answer = match call {
         Call::Deliver(request) => Some(docket.deliver(table, request).into()),
@@ -96,21 +96,21 @@ fn closed_turn<R: Recording, P: ResponseRule>(
     }
 }
 
-impl State {
-    // One call, if the state offers it.
-    pub fn take<R: Recording, P: ResponseRule>(
-        self,
-        table: &mut [Sample],
-        call: Call<'_, R, P>,
-    ) -> Turn
-        ensures answers_as_the_accepted_record { TakesTurn self table.old
-            (meaning_of R.meaning P.ResponseRule.triggers P.ResponseRule.weighs call.entry) result table.new }
-        ensures answers_as_the_docket_and_its_table { Does self table.old
-            (meaning_of R.meaning P.ResponseRule.triggers P.ResponseRule.weighs call.entry) result table.new }
-    {
-        match self {
-            State::Open(docket) => open_turn(docket, table, call),
-            State::Closed(docket) => closed_turn(docket, table, call),
-        }
+// One call on a docket in either state, if the state offers it.
+pub fn take<R: Recording, P: ResponseRule>(
+    state: State,
+    table: &mut [Sample],
+    call: Call<'_, R, P>,
+) -> Turn
+    ensures answers_as_the_accepted_record { TakesTurn state table.old
+        (meaning_of R.meaning P.ResponseRule.triggers P.ResponseRule.weighs call.entry)
+        result table.new }
+    ensures answers_as_the_docket_and_its_table { Does state table.old
+        (meaning_of R.meaning P.ResponseRule.triggers P.ResponseRule.weighs call.entry)
+        result table.new }
+{
+    match state {
+        State::Open(docket) => open_turn(docket, table, call),
+        State::Closed(docket) => closed_turn(docket, table, call),
     }
 }

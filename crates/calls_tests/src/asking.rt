@@ -1,7 +1,7 @@
 // What the examples share: readings, requests and what is expected of an answer.
 use calls::answer::Answer;
-use docket::request::Request;
-use figure::report::{Claim, Report, Verdict};
+use figure::report::{Report, Verdict};
+use figure::request::{Enablement, Request};
 use recording::reading::{Reading, WholeReading};
 use recording::refusal::{Reason, Refusal};
 use recording::sample::Sample;
@@ -39,14 +39,14 @@ pub(crate) fn request<'a, R>(
     settings: &'a Settings,
     rule: &'a R,
     service: Service,
-    enabled: i64,
+    watts: i64,
 ) -> Request<'a, R> {
     Request {
         settings,
         rule,
         targets: &[],
         count: 0,
-        claim: Claim { service, enabled },
+        enablement: Enablement { service, watts },
     }
 }
 

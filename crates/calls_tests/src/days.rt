@@ -5,8 +5,8 @@ use calls::call::Call;
 use calls::run::{NotOffered, run};
 use disturbance::direction::Direction;
 use disturbance::disturbance::Disturbance;
-use docket::request::Request;
-use figure::report::{Claim, Verdict};
+use figure::report::Verdict;
+use figure::request::{Enablement, Request};
 use recording::makes::{ByteRecording, Make};
 use recording::refusal::{Reason, Refusal};
 use recording::sample::Sample;
@@ -48,9 +48,9 @@ fn day<'a>(
     switching: Request<'a, Rule>,
 ) -> Calls<'a> {
     let lower = Request {
-        claim: Claim {
+        enablement: Enablement {
             service: Service::L6,
-            enabled: 0,
+            watts: 0,
         },
         ..variable
     };

@@ -1,8 +1,8 @@
 // Deliveries on a closed docket: with its own table, with another's, and with targets.
 use crate::asking::*;
 use docket::docket::{ClosedDocket, OpenDocket};
-use docket::request::Request;
 use figure::report::{Report, Verdict};
+use figure::request::Request;
 use recording::refusal::{Reason, Refusal};
 use recording::sample::Sample;
 use response::service::Service;

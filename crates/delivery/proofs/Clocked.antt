@@ -3,6 +3,7 @@ use Rattle.std.proofs.Common.{◌≡◌, ℕ, ◌-◌, ◌<◌, ◌≤◌, List,
 use borrow.Author.Differences.{ints}
 use Rattle.std.proofs.lemmas.Int.{by_lt_z}
 use Rattle.recording.specs.declared.sample.Sample.{Sample}
+use Rattle.recording.specs.Samples.{latest}
 use Rattle.disturbance.specs.declared.direction.Direction.{Direction}
 use Rattle.disturbance.specs.Trace.{at, Sound}
 use Rattle.response.specs.declared.group.Window.{Window}
@@ -34,10 +35,10 @@ module _ (xs : List Sample) (sound : Sound xs) (w : Span) (full : Empty w → �
   to_last = by_lt_z (pos (at xs (length xs - 1)).time) w.end (λ less. absurd (within (after_last xs sound w full less))) (λ le. le)
 
   -- both ends are times of the clock
-  pub on_clock_lem : (pos 0 ≤ℤ w.start) × ((w.start ≤ℤ pos 1200000) × ((pos 0 ≤ℤ w.end) × (w.end ≤ℤ pos 1200000)))
+  pub on_clock_lem : (pos 0 ≤ℤ w.start) × ((w.start ≤ℤ pos latest) × ((pos 0 ≤ℤ w.end) × (w.end ≤ℤ pos latest)))
   on_clock_lem =
       let some = some_sample xs w full within in
-      let latest : (at xs (length xs - 1)).time ≤ 1200000 = (sound.1 (length xs - 1) (omega arith)).0 in
+      let latest : (at xs (length xs - 1)).time ≤ latest = (sound.1 (length xs - 1) (omega arith)).0 in
       let rises = (stands xs w full within).rises in
       let a = from_first in
       let b = to_last in

@@ -4,6 +4,7 @@ use mir.Syntax.{w128}
 use Rattle.std.proofs.lemmas.Int.{to_z-of_z, ints}
 use Rattle.exact.specs.Limits.{Within}
 use Rattle.exact.proofs.Limits.{within_out, within_more, within-*, within_fits}
+use Rattle.delivery.specs.Limits.{widest_height, widest_power}
 
 -- r is held as it is, within A
 pub record Held (A : ℕ) (r e : ℤ) : Type 0 where
@@ -27,9 +28,9 @@ held_sum {A} {a} {r} {e} {x} lt q f h =
     record { fits = fits; is = is ∙ f; within = subst (Within A) (sym is) h }
 
 -- watts in hundredths
-pub hundred : {r p : ℤ} → r ≡ to_z w64 (of_z w64 p) *ℤ pos 100 → Within 1000000000 p → Held 100000000000 r (p *ℤ pos 100)
+pub hundred : {r p : ℤ} → r ≡ to_z w64 (of_z w64 p) *ℤ pos 100 → Within widest_power p → Held widest_height r (p *ℤ pos 100)
 hundred {r} {p} e h =
     let l = within_out h in
     let small : SFits w64 p = omega (arith, ints) in
     let f : r ≡ p *ℤ pos 100 = simp to_z-of_z at e in
-    held (omega arith) f (subst (Within 100000000000) (sym f) (within_more (omega arith) (within-* 100 h)))
+    held (omega arith) f (subst (Within widest_height) (sym f) (within_more (omega arith) (within-* 100 h)))

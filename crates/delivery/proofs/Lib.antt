@@ -13,6 +13,7 @@ pub mod Ends
 pub mod Keeping
 pub mod Signs
 pub mod Reaching
+pub mod Parts
 pub mod Answering
 pub mod Clocked
 pub mod Grounds

@@ -1,5 +1,5 @@
 -- Adding up the trapezoids of a window, point by point.
-use Rattle.std.proofs.Common.{◌≡◌, ℕ, ◌+◌, ◌-◌, ◌*◌, ◌^◌, ◌<◌, ◌≤◌, Bool, true, false, cond, ◌&&◌, ltb, List, [], ◌∷◌, drop, ℤ, pos, ◌+ℤ◌, ◌*ℤ◌, ap, ◌∙◌, subst, arith}
+use Rattle.std.proofs.Common.{◌≡◌, ℕ, ◌+◌, ◌-◌, ◌*◌, ◌<◌, ◌≤◌, Bool, true, false, cond, ◌&&◌, ltb, List, [], ◌∷◌, drop, ℤ, pos, ◌+ℤ◌, ◌*ℤ◌, ap, ◌∙◌, subst, arith}
 use lib.IntN.{+ℤ_assoc, +ℤ_idl}
 use Rattle.std.specs.List.{AllByRecursion}
 use Rattle.std.proofs.ByRecursion.{All-weaker}
@@ -12,8 +12,9 @@ use Rattle.figure.specs.Points.{After, Rises}
 use Rattle.figure.specs.Steps.{inside}
 use Rattle.figure.proofs.Rising.{after_rises}
 use Rattle.delivery.proofs.Courses.{after_strict}
+use Rattle.delivery.specs.Limits.{widest_response, widest_strip}
 
-pub strip_within : (v w : ℤ) (k : ℕ) → Within (2 ^ 42) v → Within (2 ^ 42) w → Within (2 ^ 43 * k) ((v +ℤ w) *ℤ pos k)
+pub strip_within : (v w : ℤ) (k : ℕ) → Within widest_response v → Within widest_response w → Within (widest_strip * k) ((v +ℤ w) *ℤ pos k)
 strip_within v w k h h' = within_more (omega arith) (within-* k (within-+ h h'))
 
 -- after i points the sum stands at v0 at t0, on its way from v at t to v' at t'
@@ -23,15 +24,15 @@ pub record Summed (z : Point → ℤ) (ps : List Point) (t t' : ℕ) (v v' : ℤ
   pub ahead : AllByRecursion (λ p. t < p.time → t0 < p.time) (drop i ps)
   pub from : t ≤ t0
   pub upto : t0 ≤ t'
-  pub level : Within (2 ^ 42) v0
-  pub limit : Within (2 ^ 43 * (t0 - t)) sum
+  pub level : Within widest_response v0
+  pub limit : Within (widest_strip * (t0 - t)) sum
 
 module _ (z : Point → ℤ) (ps : List Point) (t t' : ℕ) (v v' : ℤ) where
   all_ahead : (ks : List Point) → AllByRecursion (λ p. t < p.time → t < p.time) ks
   all_ahead [] = tt
   all_ahead (p ∷ ks) = ((λ h. h), all_ahead ks)
 
-  pub start : Rises ps → t ≤ t' → Within (2 ^ 42) v → Summed z ps t t' v v' 0 t v (pos 0)
+  pub start : Rises ps → t ≤ t' → Within widest_response v → Summed z ps t t' v v' 0 t v (pos 0)
   start r le w = record { adds = +ℤ_idl _; rises = r; ahead = all_ahead ps; from = omega arith; upto = le; level = w; limit = within_in (omega arith) (omega arith) }
 
   module _ (i t0 : ℕ) (v0 sum : ℤ) (h : Summed z ps t t' v v' i t0 v0 sum) where
@@ -54,7 +55,7 @@ module _ (z : Point → ℤ) (ps : List Point) (t t' : ℕ) (v v' : ℤ) where
       passed le = record { adds = next false (ap (λ (x : Bool). x && ltb p.time t') (le-ltb t p.time le)); rises = after_rises _ _ later; ahead = here.1; from = h.from; upto = h.upto; level = h.level; limit = h.limit }
 
       -- p stands in the window, and w is its value
-      module _ (lo : t < p.time) (hi : p.time < t') (w : ℤ) (e : w ≡ z p) (small : Within (2 ^ 42) w) where
+      module _ (lo : t < p.time) (hi : p.time < t') (w : ℤ) (e : w ≡ z p) (small : Within widest_response w) where
         pub turn : Summed z ps t t' v v' (i + 1) p.time w (sum +ℤ (v0 +ℤ w) *ℤ pos (p.time - t0))
         turn = record {
           adds = rw e (+ℤ_assoc sum _ _ ∙ next true (ap (λ (x : Bool). x && ltb p.time t') (lt-ltb t p.time lo) ∙ lt-ltb p.time t' hi));
@@ -70,5 +71,5 @@ module _ (z : Point → ℤ) (ps : List Point) (t t' : ℕ) (v v' : ℤ) where
     pub end : inside t t' (drop i ps) ≡ [] → sum +ℤ (v0 +ℤ v') *ℤ pos (t' - t0) ≡ twice_area (λ p. p.time) z t v (inside t t' ps) t' v'
     end e = subst (λ (ks : List Point). sum +ℤ twice_area (λ p. p.time) z t0 v0 ks t' v' ≡ twice_area (λ p. p.time) z t v (inside t t' ps) t' v') e h.adds
 
-    pub end_within : Within (2 ^ 42) v' → Within (2 ^ 43 * (t' - t)) (sum +ℤ (v0 +ℤ v') *ℤ pos (t' - t0))
+    pub end_within : Within widest_response v' → Within (widest_strip * (t' - t)) (sum +ℤ (v0 +ℤ v') *ℤ pos (t' - t0))
     end_within w = within_more (omega (arith, h.from, h.upto)) (within-+ h.limit (strip_within v0 v' (t' - t0) h.level w))

@@ -1,5 +1,5 @@
 -- One pass over the points finds the ends of a window and its area.
-use Rattle.std.proofs.Common.{◌≡◌, ℕ, ◌+◌, ◌-◌, ◌*◌, ◌^◌, ◌<◌, ◌≤◌, max, Bool, true, false, cond, ◌&&◌, ltb, List, [], ◌∷◌, length, drop, ℤ, pos, ◌+ℤ◌, ◌*ℤ◌, sym, refl, ap, ◌∙◌, subst, inl, inr, arith}
+use Rattle.std.proofs.Common.{◌≡◌, ℕ, ◌+◌, ◌-◌, ◌*◌, ◌<◌, ◌≤◌, max, Bool, true, false, cond, ◌&&◌, ltb, List, [], ◌∷◌, length, drop, ℤ, pos, ◌+ℤ◌, ◌*ℤ◌, sym, refl, ap, ◌∙◌, subst, inl, inr, arith}
 use Rattle.std.specs.List.{AllByRecursion}
 use Rattle.std.proofs.lemmas.List.{drop_all}
 use Rattle.std.proofs.lemmas.Bool.{ltb-true, ltb-false, cases_lt, cond_both}
@@ -13,7 +13,7 @@ use Rattle.exact.proofs.Limits.{half_up_within, within_in}
 use Rattle.figure.specs.declared.point.Point.{Point}
 use Rattle.figure.specs.Points.{After, Rises}
 use Rattle.figure.specs.Steps.{inside}
-use Rattle.delivery.specs.Limits.{BeginsBy}
+use Rattle.delivery.specs.Limits.{BeginsBy, widest_response, widest_strip}
 use Rattle.delivery.specs.Areas.{end_of, area_of}
 use Rattle.delivery.proofs.Courses.{after_all, after_strict, begins_later}
 use Rattle.delivery.proofs.Reach.{Reached}
@@ -48,20 +48,20 @@ none_inside a b (p ∷ ks) h = out (ltb a p.time) ∙ none_inside a b ks h.1
 
 -- after i points, the last of them v1 at t1; level is the line's value at the later of a and t1
 pub record Walk (z : Point → ℤ) (ps : List Point) (a b i t1 : ℕ) (v1 sum : ℤ) : Type 0 where
-  pub onto : Reached (2 ^ 42) (λ p. p.time) z ps b i t1 v1
+  pub onto : Reached widest_response (λ p. p.time) z ps b i t1 v1
   pub level : ℤ
   pub summed : Summed z ps a b (end_of z ps a) (end_of z ps b) i (max a t1) level sum
-  pub before : t1 ≤ a → Reached (2 ^ 42) (λ p. p.time) z ps a i t1 v1 × (level ≡ end_of z ps a)
+  pub before : t1 ≤ a → Reached widest_response (λ p. p.time) z ps a i t1 v1 × (level ≡ end_of z ps a)
   pub after : a < t1 → (level ≡ v1) × AllByRecursion (λ p. t1 < p.time) (drop i ps)
 
 abbrev At : (z : Point → ℤ) (ps : List Point) (a b i t0 : ℕ) (x sum : ℤ) → Type 0
 At z ps a b i t0 x sum = Summed z ps a b (end_of z ps a) (end_of z ps b) i t0 x sum
 
-pub start : (z : Point → ℤ) (ps : List Point) (a b : ℕ) → a < b → Rises ps → AllByRecursion (λ p. Within (2 ^ 42) (z p)) ps → BeginsBy (λ p. p.time) a ps → Walk z ps a b 0 0 (pos 0) (pos 0)
+pub start : (z : Point → ℤ) (ps : List Point) (a b : ℕ) → a < b → Rises ps → AllByRecursion (λ p. Within widest_response (z p)) ps → BeginsBy (λ p. p.time) a ps → Walk z ps a b 0 0 (pos 0) (pos 0)
 start z ps a b lt r w h = record {
   onto = reach.start (λ p. p.time) z ps b (begins_later (λ p. p.time) a b ps (omega arith) h);
   level = end_of z ps a;
-  summed = subst (λ (t : ℕ). At z ps a b 0 t (end_of z ps a) (pos 0)) (omega arith) (summing.start z ps a b (end_of z ps a) (end_of z ps b) r (omega arith) (line_within (2 ^ 42) z a ps h w));
+  summed = subst (λ (t : ℕ). At z ps a b 0 t (end_of z ps a) (pos 0)) (omega arith) (summing.start z ps a b (end_of z ps a) (end_of z ps b) r (omega arith) (line_within widest_response z a ps h w));
   before = λ _. (reach.start (λ p. p.time) z ps a h, refl);
   after = λ k. absurd (omega arith);
 }
@@ -72,7 +72,7 @@ pub record Here (z : Point → ℤ) (ps : List Point) (a b i t1 : ℕ) (v1 sum :
   pub walked : Walk z ps a b i t1 v1 sum
   pub next : drop i ps ≡ p ∷ drop (i + 1) ps
   pub value : v ≡ z p
-  pub within : Within (2 ^ 42) v
+  pub within : Within widest_response v
 
 module _ {z : Point → ℤ} {ps : List Point} {a b i t1 : ℕ} {v1 sum : ℤ} {p : Point} {v : ℤ} (here : Here z ps a b i t1 v1 sum p v) where
   abbrev h : Walk z ps a b i t1 v1 sum
@@ -162,8 +162,8 @@ module _ {z : Point → ℤ} {ps : List Point} {a b i t1 : ℕ} {v1 sum : ℤ} {
         pub stop : sum +ℤ (y +ℤ x) *ℤ pos (b - t0) ≡ area_of z ps a b
         stop = parts ∙ summing.end z ps a b _ _ i _ _ _ h.summed no_more
 
-        pub stop_within : Within (2 ^ 42) x → Within (2 ^ 43 * (b - a)) (sum +ℤ (y +ℤ x) *ℤ pos (b - t0))
-        stop_within k = subst (Within (2 ^ 43 * (b - a))) (sym parts) (summing.end_within z ps a b _ _ i _ _ _ h.summed (subst (Within (2 ^ 42)) last_is k))
+        pub stop_within : Within widest_response x → Within (widest_strip * (b - a)) (sum +ℤ (y +ℤ x) *ℤ pos (b - t0))
+        stop_within k = subst (Within (widest_strip * (b - a))) (sym parts) (summing.end_within z ps a b _ _ i _ _ _ h.summed (subst (Within widest_response) last_is k))
 
 -- after the last point
 module _ {z : Point → ℤ} {ps : List Point} {a b i t1 : ℕ} {v1 sum : ℤ} (h : Walk z ps a b i t1 v1 sum) (le : length ps ≤ i) {t0 : ℕ} (et : t0 ≡ max a t1) where
@@ -182,5 +182,5 @@ module _ {z : Point → ℤ} {ps : List Point} {a b i t1 : ℕ} {v1 sum : ℤ} (
   pub done : sum +ℤ (v1 +ℤ v1) *ℤ pos (b - t0) ≡ area_of z ps a b
   done = sym parts_end ∙ summing.end z ps a b _ _ i _ _ _ h.summed (ap (inside a b) (drop_all i ps le))
 
-  pub done_within : Within (2 ^ 43 * (b - a)) (sum +ℤ (v1 +ℤ v1) *ℤ pos (b - t0))
-  done_within = subst (Within (2 ^ 43 * (b - a))) parts_end (summing.end_within z ps a b _ _ i _ _ _ h.summed (subst (Within (2 ^ 42)) end_is h.onto.within))
+  pub done_within : Within (widest_strip * (b - a)) (sum +ℤ (v1 +ℤ v1) *ℤ pos (b - t0))
+  done_within = subst (Within (widest_strip * (b - a))) parts_end (summing.end_within z ps a b _ _ i _ _ _ h.summed (subst (Within widest_response) end_is h.onto.within))

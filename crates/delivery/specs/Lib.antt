@@ -2,3 +2,4 @@ pub mod Limits
 pub mod Areas
 pub mod Filling
 pub mod Footings
+pub mod Checking

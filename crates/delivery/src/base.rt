@@ -3,39 +3,46 @@ ghost use Rattle.std.specs.Prelude.{◌≡◌, [], pos, ◌*ℤ◌};
 ghost use Rattle.exact.specs.Fractions.{whole};
 ghost use Rattle.exact.specs.Limits.{Within};
 ghost use Rattle.exact.specs.Wholes.{Is};
-ghost use Rattle.figure.specs.Points.{course};
-ghost use Rattle.figure.specs.Steps.{trajectory as trajectory_of, base_push, base_of, to_half_up};
+ghost use Rattle.figure.specs.Steps.{power as power_of, trajectory as trajectory_of, base_push, base, to_half_up};
 ghost use Rattle.figure.specs.Defects.{MissedByTargets};
-ghost use Rattle.delivery.specs.Limits.{BeginsBy};
-ghost use Rattle.delivery.specs.Footings.{points_on};
+ghost use Rattle.delivery.specs.Limits.{BeginsBy, widest_base, widest_height, widest_power};
+ghost use Rattle.delivery.specs.Footings.{points_on, case_on};
 
 use crate::basis::Basis;
 use crate::footing::Footing;
 use crate::points::turned;
 use crate::rounding::{half_up, straight_half_up};
 use crate::targets::Targets;
-use disturbance::direction::{Direction, push};
-use disturbance::disturbance::Disturbance;
+use disturbance::direction::push;
 use figure::point::Point;
 
 // Watts in hundredths.
-pub(crate) fn in_hundredths(watts: i64) -> i128
+fn in_hundredths(watts: i64) -> i128
     ensures { result ≡ watts *ℤ pos 100 }
 {
     watts as i128 * 100
 }
 
+// The power that a point enters with, for its base and for its response.
+pub(crate) fn power(point: Point) -> i128
+    requires { Within widest_power point.push }
+    ensures is { whole result ≡ power_of point }
+    ensures within { Within widest_height result }
+{
+    in_hundredths(point.push)
+}
+
 // The trajectory of the targets at a time. It walks from target to target, as the line is defined. A
 // search for the targets around the time would leave three cases behind it: before, between and after.
-fn trajectory(targets: Targets, direction: Direction, time: u32) -> i128
+fn trajectory(footing: Footing, targets: Targets, time: u32) -> i128
     requires { BeginsBy (λ g. g.time) time targets.all.now }
-    ensures is { whole result ≡ trajectory_of to_half_up direction targets.entry.all.now time }
-    ensures within { Within 100000000000 result }
+    ensures is { whole result ≡ trajectory_of to_half_up (case_on footing.entry targets.entry.all.now) time }
+    ensures within { Within widest_height result }
 {
     let mut t0 = 0;
     let mut v0: i128 = 0;
     for target in targets.all {
-        let v = in_hundredths(push(direction, target.power));
+        let v = in_hundredths(push(footing.disturbance.direction, target.power));
         if time < target.time {
             return straight_half_up(t0, v0, target.time, v, time);
         }
@@ -46,19 +53,19 @@ fn trajectory(targets: Targets, direction: Direction, time: u32) -> i128
 }
 
 // The push of a base point: raised where the trajectory rises to the disturbance.
-fn base_push(point: Point, targets: Targets, disturbance: Disturbance) -> i128
-    requires small { Within 1000000000 point.push }
-    requires begins { (BeginsBy (λ g. g.time) disturbance.time targets.all.now)
+fn base_push(footing: Footing, targets: Targets, point: Point) -> i128
+    requires small { Within widest_power point.push }
+    requires begins { (BeginsBy (λ g. g.time) footing.disturbance.time targets.all.now)
         × (BeginsBy (λ g. g.time) point.time targets.all.now) }
-    ensures is { Is (base_push to_half_up disturbance.direction targets.entry.all.now disturbance.time point) result 1 }
-    ensures within { Within 300000000000 result }
+    ensures is { Is (base_push to_half_up (case_on footing.entry targets.entry.all.now) point) result 1 }
+    ensures within { Within widest_base result }
 {
-    let pushed = in_hundredths(point.push);
+    let pushed = power(point);
     if targets.all.is_empty() {
         return pushed;
     }
-    let there = trajectory(targets, disturbance.direction, disturbance.time);
-    let here = trajectory(targets, disturbance.direction, point.time);
+    let there = trajectory(footing, targets, footing.disturbance.time);
+    let here = trajectory(footing, targets, point.time);
     pushed + (there - here).max(0)
 }
 
@@ -68,16 +75,14 @@ pub(crate) fn basis(footing: Footing, targets: Targets) -> Basis
     requires some { points_on footing ≡ [] → ⊥ }
     requires reached { MissedByTargets targets.all.now footing.disturbance.time (points_on footing) → ⊥ }
     ensures time { result.disturbance ≡ footing.entry.disturbance.time }
-    ensures base { whole result.base ≡ base_of to_half_up footing.entry.disturbance.direction targets.entry.all.now
-        footing.entry.disturbance.time footing.entry.window
-        (course footing.entry.disturbance.direction footing.entry.trace.samples.now) }
+    ensures base { whole result.base ≡ base to_half_up (case_on footing.entry targets.entry.all.now) }
 {
     let mut sum: i128 = 0;
     let mut count: u64 = 0;
     for sample in footing.trace.samples {
         let point = turned(footing.disturbance.direction, *sample);
-        if footing.counts(point) {
-            sum += base_push(point, targets, footing.disturbance);
+        if footing.counts(point.time) {
+            sum += base_push(footing, targets, point);
             count += 1;
         }
     }

@@ -1,13 +1,11 @@
 // The compensated response at a point.
 ghost use Rattle.std.specs.Prelude.{◌≡◌, ◌^◌};
-ghost use Rattle.exact.specs.Fractions.{whole};
 ghost use Rattle.exact.specs.Limits.{Within};
 ghost use Rattle.response.specs.Weights.{Weighs};
-ghost use Rattle.figure.specs.Steps.{weight_at};
-ghost use Rattle.delivery.specs.Areas.{response_from};
-ghost use Rattle.delivery.specs.Limits.{Tame};
+ghost use Rattle.delivery.specs.Areas.{weight_at, compensated_z};
+ghost use Rattle.delivery.specs.Limits.{Tame, widest_response};
 
-use crate::base::in_hundredths;
+use crate::base::power;
 use crate::basis::Basis;
 use crate::rounding::half_up;
 use figure::point::Point;
@@ -36,10 +34,10 @@ fn weight_at<R: ResponseRule>(point: Point, disturbance: u32, rule: &R) -> Weigh
 // itself.
 pub(crate) fn compensated<R: ResponseRule>(point: Point, basis: Basis, rule: &R) -> i128
     requires { Tame point }
-    ensures is { whole result ≡ response_from (R.ResponseRule.weighs rule.now) basis point }
-    ensures within { Within (2 ^ 42) result }
+    ensures is { result ≡ compensated_z (R.ResponseRule.weighs rule.now) basis point }
+    ensures within { Within widest_response result }
 {
     let weight = weight_at(point, basis.disturbance, rule);
-    let response = in_hundredths(point.push) - basis.base;
+    let response = power(point) - basis.base;
     half_up(response * weight.n as i128, weight.d as u64)
 }

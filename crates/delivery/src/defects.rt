@@ -2,13 +2,13 @@
 ghost use Rattle.std.specs.Prelude.{◌≡◌, ◌⊎◌, take, IfOk, Decides};
 ghost use Rattle.std.specs.Result.{result_err};
 ghost use Rattle.timeline.specs.Checks.{FirstFault};
-ghost use Rattle.figure.specs.Defects.{BadAmount, WrongSide, Beyond, early_defects, span_defects};
+ghost use Rattle.figure.specs.Defects.{BadAmount, WrongSide, Beyond};
+ghost use Rattle.delivery.specs.Checking.{early_defects, span_defects, unplaced};
 
 use crate::footing::Footing;
 use crate::gaps::is_gapped;
 use crate::spans::{Spans, is_beyond, is_empty};
 use crate::targets::{Targets, counted};
-use crate::terms::Terms;
 use disturbance::direction::Direction;
 use disturbance::trace::Trace;
 use recording::refusal::Reason;
@@ -37,16 +37,17 @@ pub(crate) fn early_defect<'a>(
     footing: Footing,
     table: &'a [Target],
     count: usize,
-    terms: Terms,
+    side: Side,
+    watts: i64,
 ) -> Result<Targets<'a>, Reason>
     ensures defect { FirstFault (early_defects footing.entry.trace.samples.now footing.entry.disturbance
-        footing.entry.window table.now count terms.side terms.enabled) (result_err result) }
+        footing.entry.window table.now count side watts) (unplaced (result_err result)) }
     ensures counted { IfOk result (λ targets. targets.all.now ≡ take count table.now) }
 {
-    if is_bad_amount(terms.enabled) {
+    if is_bad_amount(watts) {
         return Err(Reason::AmountOutside);
     }
-    if is_wrong_side(terms.side, footing.disturbance.direction) {
+    if is_wrong_side(side, footing.disturbance.direction) {
         return Err(Reason::OtherDirection);
     }
     let targets = counted(table, count)?;
@@ -70,7 +71,8 @@ fn is_one_beyond(trace: Trace, spans: Spans) -> bool
 
 // The first defect of two windows.
 pub(crate) fn span_defect(trace: Trace, spans: Spans) -> Result<(), Reason>
-    ensures { FirstFault (span_defects trace.entry.samples.now spans.widest_gap spans.first spans.second) (result_err result) }
+    ensures { FirstFault (span_defects trace.entry.samples.now spans.widest_gap spans.first spans.second)
+        (unplaced (result_err result)) }
 {
     if is_empty(spans.first) {
         return Err(Reason::EmptyFirstWindow);

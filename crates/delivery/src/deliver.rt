@@ -3,7 +3,7 @@ ghost use Rattle.std.specs.Prelude.{◌≡◌, IfOk, Result as Answer};
 ghost use Rattle.recording.specs.declared.refusal.Refusal.{Refusal as Refused};
 ghost use Rattle.response.specs.Groups.{Sound as SoundRow};
 ghost use Rattle.figure.specs.declared.report.Report.{Report as Reported};
-ghost use Rattle.figure.specs.Asked.{TriggerTime, asked_by, asked_for};
+ghost use Rattle.figure.specs.Asked.{TriggerTime, asked, with_row};
 ghost use Rattle.figure.specs.Exactness.{Faithful};
 ghost use Rattle.figure.specs.Reports.{Delivers};
 
@@ -13,18 +13,18 @@ use crate::footing::Footing;
 use crate::judging::judged;
 use crate::shift::shift;
 use crate::spans::placed_row;
-use crate::terms::Terms;
 use crate::values::window_values;
 use disturbance::disturbance::Disturbance;
 use disturbance::recovery::recovery;
 use disturbance::trace::Trace;
 use disturbance::trigger::trigger_time;
-use figure::report::{Claim, Report};
+use figure::report::Report;
+use figure::request::Request;
 use recording::refusal::Refusal;
+use response::group::Row;
 use response::rule::ResponseRule;
-use response::settings::Settings;
+use response::service::Side;
 use response::setup::Trigger;
-use timeline::target::Target;
 
 // The time at which the rule's trigger is reached; none without a trigger.
 fn reached(
@@ -38,20 +38,25 @@ fn reached(
     trigger_time(trace, disturbance, recovery, trigger?.dip)
 }
 
-// The delivery over any row of windows.
+// The delivery of what is asked, of a side over any row of windows.
 fn deliver_over<R: ResponseRule>(
     trace: Trace,
     disturbance: Disturbance,
-    settings: &Settings,
-    rule: &R,
-    targets: &[Target],
-    count: usize,
-    terms: Terms,
+    request: Request<'_, R>,
+    side: Side,
+    row: Row,
 ) -> Result<Report, Refusal>
-    requires { SoundRow terms.row }
-    ensures { Delivers (asked_by trace.entry.samples.now disturbance settings.now (R.ResponseRule.triggers rule.now)
-        (R.ResponseRule.weighs rule.now) targets.now count terms.side terms.row terms.enabled) result }
+    requires { SoundRow row }
+    ensures { Delivers trace.entry.samples.now disturbance
+        (with_row side row (asked R.ResponseRule.triggers R.ResponseRule.weighs request.entry)) result }
 {
+    let Request {
+        settings,
+        rule,
+        targets,
+        count,
+        enablement,
+    } = request;
     let recovered = recovery(trace, disturbance);
     let trigger = rule.trigger();
     let triggered = reached(trace, disturbance, recovered, trigger);
@@ -60,45 +65,36 @@ fn deliver_over<R: ResponseRule>(
         disturbance,
         window: settings.base(),
     };
-    let counted = early_defect(footing, targets, count, terms)?;
+    let counted = early_defect(footing, targets, count, side, enablement.watts)?;
     let time = disturbance.time;
     let direction = disturbance.direction;
     let shifted_by = shift(settings.response.rate, time, trigger, triggered)?;
-    let spans = placed_row(time, shifted_by, recovered, terms.row);
+    let spans = placed_row(time, shifted_by, recovered, row);
     span_defect(trace, spans)?;
     let counted_from = basis(footing, counted);
     let values = window_values(trace, direction, recovered, spans, counted_from, rule);
-    Ok(judged(time, recovered, values, terms))
+    Ok(judged(time, recovered, values, enablement.watts))
 }
 
 // The delivery of a service on a sound record with its disturbance: the report, or the first defect
 // in the checking order. It changes nothing. It asks for a record and its disturbance apart: a closed
-// docket keeps its disturbance as plain numbers. The targets are the caller's table, with its count
-// beside it. Each promise is a clause of its own, so that it can be cited by its name.
+// docket keeps its disturbance as plain numbers. The targets of a request are the caller's table, with
+// its count beside it. Each promise is a clause of its own, so that it can be cited by its name.
 pub fn deliver<R: ResponseRule>(
     trace: Trace,
     disturbance: Disturbance,
-    settings: &Settings,
-    rule: &R,
-    targets: &[Target],
-    count: usize,
-    claim: Claim,
+    request: Request<'_, R>,
 ) -> Result<Report, Refusal>
-    ensures the_report_of_the_steps_or_the_first_defect { Delivers
-        (asked_for trace.entry.samples.now disturbance settings.now
-        (R.ResponseRule.triggers rule.now) (R.ResponseRule.weighs rule.now) targets.now count claim) result }
-    ensures no_other_answer { (s : Answer Reported Refused) → Delivers
-        (asked_for trace.entry.samples.now disturbance settings.now
-        (R.ResponseRule.triggers rule.now) (R.ResponseRule.weighs rule.now) targets.now count claim) s → s ≡ result }
-    ensures less_than_a_watt_from_exact_and_fair { IfOk result (λ report. Faithful
-        (asked_for trace.entry.samples.now disturbance settings.now
-        (R.ResponseRule.triggers rule.now) (R.ResponseRule.weighs rule.now) targets.now count claim) report) }
+    ensures the_report_of_the_steps_or_the_first_defect { Delivers trace.entry.samples.now
+        disturbance (asked R.ResponseRule.triggers R.ResponseRule.weighs request.entry) result }
+    ensures no_other_answer { (s : Answer Reported Refused)
+        → Delivers trace.entry.samples.now disturbance
+        (asked R.ResponseRule.triggers R.ResponseRule.weighs request.entry) s → s ≡ result }
+    ensures less_than_a_watt_from_exact_and_fair { IfOk result
+        (Faithful trace.entry.samples.now disturbance
+        (asked R.ResponseRule.triggers R.ResponseRule.weighs request.entry)) }
 {
-    let service = claim.service;
-    let terms = Terms {
-        side: service.side(),
-        row: service.group().row(),
-        enabled: claim.enabled,
-    };
-    deliver_over(trace, disturbance, settings, rule, targets, count, terms)
+    let service = request.enablement.service;
+    let row = service.group().row();
+    deliver_over(trace, disturbance, request, service.side(), row)
 }

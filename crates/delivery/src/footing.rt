@@ -4,11 +4,9 @@ ghost use Rattle.figure.specs.Steps.{is_base};
 ghost use Rattle.figure.specs.Defects.{Missed, OneMissed, MissedByTargets};
 ghost use Rattle.delivery.specs.Footings.{points_on};
 
-use crate::points::turned;
 use crate::targets::Targets;
 use disturbance::disturbance::Disturbance;
 use disturbance::trace::Trace;
-use figure::point::Point;
 use response::base::BaseWindow;
 
 // A trace, as its disturbance turns it, and the base window before the disturbance.
@@ -20,33 +18,32 @@ pub(crate) struct Footing<'a> {
 }
 
 impl Footing<'_> {
-    // Whether a point counts for the base. Both edges are inside.
-    pub(crate) fn counts(self, point: Point) -> bool
-        ensures { result ≡ is_base self.entry.disturbance.time self.entry.window point }
+    // Whether a sample at a time counts for the base. Both edges are inside.
+    pub(crate) fn counts(self, time: u32) -> bool
+        ensures { result ≡ is_base self.entry.disturbance.time self.entry.window time }
     {
         let disturbance = self.disturbance.time as u64;
-        disturbance <= point.time as u64 + self.window.begin as u64
-            && point.time as u64 + self.window.end as u64 <= disturbance
+        disturbance <= time as u64 + self.window.begin as u64
+            && time as u64 + self.window.end as u64 <= disturbance
     }
 
     // Whether no sample counts for the base.
     pub(crate) fn lacks_base(self) -> bool
         ensures { Decides result (points_on self.entry ≡ []) }
     {
-        let direction = self.disturbance.direction;
         !self
             .trace
             .samples
             .iter()
-            .any(|sample| self.counts(turned(direction, *sample)))
+            .any(|sample| self.counts(sample.time))
     }
 
-    // Whether a point counts for the base and is at a time that the targets miss.
-    fn misses_point(self, targets: Targets, point: Point) -> bool
-        ensures { Decides result ((is_base self.entry.disturbance.time self.entry.window point ≡ true)
-            × ((0 < length targets.entry.all.now) × (Missed targets.entry.all.now point.time))) }
+    // Whether a sample at a time counts for the base, and the targets miss that time.
+    fn misses(self, targets: Targets, time: u32) -> bool
+        ensures { Decides result ((is_base self.entry.disturbance.time self.entry.window time ≡ true)
+            × ((0 < length targets.entry.all.now) × (Missed targets.entry.all.now time))) }
     {
-        self.counts(point) && targets.miss(point.time)
+        self.counts(time) && targets.miss(time)
     }
 
     // Whether one of the samples counts for the base and is at a time that the targets miss. One pass
@@ -55,9 +52,10 @@ impl Footing<'_> {
         ensures { Decides result ((0 < length targets.entry.all.now)
             × (OneMissed targets.entry.all.now (points_on self.entry))) }
     {
-        let direction = self.disturbance.direction;
-        let samples = self.trace.samples;
-        samples.iter().any(|sample| self.misses_point(targets, turned(direction, *sample)))
+        self.trace
+            .samples
+            .iter()
+            .any(|sample| self.misses(targets, sample.time))
     }
 
     // Whether, with targets, the disturbance or a base sample is at a time that they miss. Without

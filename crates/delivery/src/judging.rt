@@ -1,11 +1,10 @@
 // The report of a delivery, and its verdict.
-ghost use Rattle.std.specs.Prelude.{◌≡◌};
+ghost use Rattle.std.specs.Prelude.{◌≡◌, option_map};
 ghost use Rattle.exact.specs.Fractions.{whole};
 ghost use Rattle.figure.specs.Reports.{Judged};
-ghost use Rattle.figure.specs.Steps.{lesser_of, or_none};
+ghost use Rattle.figure.specs.Steps.{lesser_of};
 ghost use Rattle.delivery.specs.Filling.{Filled};
 
-use crate::terms::Terms;
 use crate::values::Values;
 use figure::report::{Report, Verdict};
 use std::cmp::Ordering;
@@ -23,20 +22,15 @@ fn verdict(watts: i64, enabled: i64) -> Verdict
 
 // The lesser value, or the first alone.
 fn lesser(values: Values) -> i64
-    ensures { whole result ≡ lesser_of (whole values.first) (or_none whole values.second) }
+    ensures { whole result ≡ lesser_of (whole values.first) (option_map whole values.second) }
 {
     let first = values.first;
     values.second.map_or(first, |second| first.min(second))
 }
 
-// The report of two values.
-pub(crate) fn judged(
-    disturbance: u32,
-    recovery: Option<u32>,
-    values: Values,
-    terms: Terms,
-) -> Report
-    ensures { Filled disturbance recovery values terms.enabled result }
+// The report of two values, where so many watts are enabled.
+pub(crate) fn judged(disturbance: u32, recovery: Option<u32>, values: Values, watts: i64) -> Report
+    ensures { Filled disturbance recovery values watts result }
 {
     let delivery = lesser(values);
     Report {
@@ -45,6 +39,6 @@ pub(crate) fn judged(
         first: values.first,
         second: values.second,
         delivery,
-        verdict: verdict(delivery, terms.enabled),
+        verdict: verdict(delivery, watts),
     }
 }

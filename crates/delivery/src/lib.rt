@@ -14,6 +14,5 @@ mod rounding;
 mod shift;
 mod spans;
 mod targets;
-mod terms;
 mod values;
 mod windows;

@@ -5,10 +5,11 @@ ghost use Rattle.exact.specs.Fractions.{frac, whole};
 ghost use Rattle.exact.specs.Limits.{Within};
 ghost use Rattle.exact.specs.Lines.{straight};
 ghost use Rattle.exact.specs.Rounding.{half_up};
+ghost use Rattle.delivery.specs.Limits.{widest_dividend, widest_response};
 
 // Half-up of n / d.
 pub(crate) fn half_up(n: i128, d: u64) -> i128
-    requires { (0 < d) × (Within (2 ^ 110) n) }
+    requires { (0 < d) × (Within widest_dividend n) }
     ensures { result ≡ half_up (frac n d) }
 {
     (2 * n + d as i128).div_euclid(2 * d as i128)
@@ -16,7 +17,7 @@ pub(crate) fn half_up(n: i128, d: u64) -> i128
 
 // Half-up of the straight line from v at t to w at s, at the time u.
 pub(crate) fn straight_half_up(t: u32, v: i128, s: u32, w: i128, u: u32) -> i128
-    requires { (t < s) × ((t ≤ u) × ((u ≤ s) × ((Within (2 ^ 42) v) × (Within (2 ^ 42) w)))) }
+    requires { (t < s) × ((t ≤ u) × ((u ≤ s) × ((Within widest_response v) × (Within widest_response w)))) }
     ensures is { result ≡ half_up (straight t (whole v) s (whole w) u) }
     ensures within { (A : ℕ) → Within A v → Within A w → Within A result }
 {
@@ -26,7 +27,7 @@ pub(crate) fn straight_half_up(t: u32, v: i128, s: u32, w: i128, u: u32) -> i128
 
 // Twice the area of one trapezoid.
 pub(crate) fn strip(v: i128, w: i128, gap: u32) -> i128
-    requires { (Within (2 ^ 42) v) × (Within (2 ^ 42) w) }
+    requires { (Within widest_response v) × (Within widest_response w) }
     ensures { result ≡ (v +ℤ w) *ℤ pos gap }
 {
     (v + w) * gap as i128

@@ -3,6 +3,7 @@ ghost use Rattle.std.specs.Prelude.{◌≡◌, ◌^◌, IfOk};
 ghost use Rattle.std.specs.Option.{ok_or};
 ghost use Rattle.exact.specs.Limits.{Within};
 ghost use Rattle.figure.specs.Windows.{ramp_time, shift_of};
+ghost use Rattle.delivery.specs.Limits.{widest_shift};
 
 use recording::refusal::Reason;
 use response::limits::RAMP_START;
@@ -23,7 +24,7 @@ pub(crate) fn shift(
     trigger_time: Option<u32>,
 ) -> Result<i64, Reason>
     ensures is { result ≡ ok_or (shift_of rate.mhz_per_s disturbance trigger trigger_time) Reason.NoTriggerTime }
-    ensures within { IfOk result (λ z. Within (2 ^ 40) z) }
+    ensures within { IfOk result (λ z. Within widest_shift z) }
 {
     let Some(dip) = trigger else {
         return Ok(0);

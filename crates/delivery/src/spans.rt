@@ -1,8 +1,10 @@
 // Windows on the clock of the record.
 ghost use Rattle.std.specs.Prelude.{◌≡◌, ◌^◌, pos, ◌≤ℤ◌, Decides, int_le};
 ghost use Rattle.exact.specs.Limits.{Within};
+ghost use Rattle.recording.specs.Samples.{latest};
 ghost use Rattle.figure.specs.Windows.{cut_at, placed as placed_at, on_clock};
 ghost use Rattle.figure.specs.Defects.{Beyond};
+ghost use Rattle.delivery.specs.Limits.{widest_shift};
 
 use disturbance::trace::Trace;
 use figure::span::Span;
@@ -26,7 +28,7 @@ fn cut(recovery: Option<u32>, time: i64) -> i64
 
 // A window after the shift, cut at recovery.
 fn placed(disturbance: u32, shift: i64, recovery: Option<u32>, window: Window) -> Span
-    requires { Within (2 ^ 40) shift }
+    requires { Within widest_shift shift }
     ensures { result ≡ placed_at disturbance shift recovery window }
 {
     let from = disturbance as i64 + shift;
@@ -39,7 +41,7 @@ fn placed(disturbance: u32, shift: i64, recovery: Option<u32>, window: Window) -
 
 // The windows of a row after the shift, cut at recovery.
 pub(crate) fn placed_row(disturbance: u32, shift: i64, recovery: Option<u32>, row: Row) -> Spans
-    requires { Within (2 ^ 40) shift }
+    requires { Within widest_shift shift }
     ensures first { result.first ≡ placed_at disturbance shift recovery row.first }
     ensures second { result.second ≡ placed_at disturbance shift recovery row.second }
     ensures widest { result.widest_gap ≡ row.widest_gap }
@@ -60,8 +62,8 @@ pub(crate) fn is_empty(span: Span) -> bool
 
 // A window whose ends are times of the clock.
 pub(crate) fn on_clock(span: Span) -> Window
-    requires { (pos 0 ≤ℤ span.start) × ((span.start ≤ℤ pos 1200000)
-        × ((pos 0 ≤ℤ span.end) × (span.end ≤ℤ pos 1200000))) }
+    requires { (pos 0 ≤ℤ span.start) × ((span.start ≤ℤ pos latest)
+        × ((pos 0 ≤ℤ span.end) × (span.end ≤ℤ pos latest))) }
     ensures { result ≡ on_clock span }
 {
     Window {

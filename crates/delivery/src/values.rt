@@ -1,9 +1,9 @@
 // The values of a service's two windows.
-ghost use Rattle.std.specs.Prelude.{◌≡◌, ◌≤◌};
+ghost use Rattle.std.specs.Prelude.{◌≡◌, ◌≤◌, option_map};
 ghost use Rattle.exact.specs.Fractions.{whole};
 ghost use Rattle.figure.specs.Points.{course};
-ghost use Rattle.figure.specs.Steps.{used_points, value_of, to_half_up, or_none};
-ghost use Rattle.delivery.specs.Areas.{response_from};
+ghost use Rattle.figure.specs.Steps.{used_points};
+ghost use Rattle.delivery.specs.Areas.{compensated_z, value_of};
 ghost use Rattle.figure.specs.Windows.{Empty, on_clock, unless_empty};
 ghost use Rattle.figure.specs.Defects.{Beyond};
 
@@ -34,10 +34,10 @@ pub(crate) fn window_values<R: ResponseRule>(
     requires times { (spans.first.multiplier ≤ 2) × (spans.second.multiplier ≤ 2) }
     requires stand { ((Empty spans.first → ⊥)) × (((Beyond trace.samples.now spans.first → ⊥))
         × ((Beyond trace.samples.now spans.second → ⊥))) }
-    ensures first { whole result.first ≡ value_of to_half_up (response_from (R.ResponseRule.weighs rule.now) basis)
+    ensures first { whole result.first ≡ value_of (compensated_z (R.ResponseRule.weighs rule.now) basis)
         (used_points recovery (course direction trace.entry.samples.now)) (on_clock spans.first) }
-    ensures second { or_none whole result.second ≡ or_none (value_of to_half_up
-        (response_from (R.ResponseRule.weighs rule.now) basis)
+    ensures second { option_map whole result.second ≡ option_map (value_of
+        (compensated_z (R.ResponseRule.weighs rule.now) basis)
         (used_points recovery (course direction trace.entry.samples.now))) (unless_empty spans.second) }
 {
     let before = used(trace, recovery);

@@ -3,9 +3,8 @@ ghost use Rattle.std.specs.Prelude.{◌≡◌, ◌-◌, ◌*◌, ◌^◌};
 ghost use Rattle.exact.specs.Fractions.{whole};
 ghost use Rattle.exact.specs.Limits.{Within};
 ghost use Rattle.figure.specs.Points.{course};
-ghost use Rattle.figure.specs.Steps.{value_of, to_half_up};
-ghost use Rattle.delivery.specs.Areas.{area_of, compensated_z, response_from};
-ghost use Rattle.delivery.specs.Limits.{BeginsBy};
+ghost use Rattle.delivery.specs.Areas.{area_of, compensated_z, value_of};
+ghost use Rattle.delivery.specs.Limits.{BeginsBy, widest_strip};
 ghost use Rattle.figure.specs.Windows.{Proper};
 
 use crate::basis::Basis;
@@ -29,9 +28,9 @@ fn area<R: ResponseRule>(
     rule: &R,
 ) -> i128
     requires { (Proper window) × (BeginsBy (λ p. p.time) window.start (course direction trace.samples.now)) }
-    ensures is { result ≡ area_of (compensated_z (R.ResponseRule.weighs rule.now) basis.disturbance basis.base)
+    ensures is { result ≡ area_of (compensated_z (R.ResponseRule.weighs rule.now) basis)
         (course direction trace.entry.samples.now) window.start window.end }
-    ensures within { Within (2 ^ 43 * (window.end - window.start)) result }
+    ensures within { Within (widest_strip * (window.end - window.start)) result }
 {
     let mut t1: u32 = 0;
     let mut v1: i128 = 0;
@@ -66,7 +65,7 @@ pub(crate) fn window_value<R: ResponseRule>(
     rule: &R,
 ) -> i64
     requires { (Proper window) × (BeginsBy (λ p. p.time) window.start (course direction trace.samples.now)) }
-    ensures { whole result ≡ value_of to_half_up (response_from (R.ResponseRule.weighs rule.now) basis)
+    ensures { whole result ≡ value_of (compensated_z (R.ResponseRule.weighs rule.now) basis)
         (course direction trace.entry.samples.now) window }
 {
     let sum = area(trace, direction, window, basis, rule);

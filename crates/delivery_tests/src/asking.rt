@@ -2,7 +2,8 @@
 use delivery::deliver::deliver;
 use disturbance::disturbance::find_disturbance;
 use disturbance::trace::Trace;
-use figure::report::{Claim, Report, Verdict};
+use figure::report::{Report, Verdict};
+use figure::request::{Enablement, Request};
 use recording::refusal::Refusal;
 use recording::sample::Sample;
 use response::rule::ResponseRule;
@@ -31,7 +32,7 @@ pub(crate) struct Case<'a> {
     pub settings: Proposal,
     pub targets: &'a [Target],
     pub count: usize,
-    pub claim: Claim,
+    pub enablement: Enablement,
 }
 
 // Plain settings, no target, and nothing enabled.
@@ -41,10 +42,7 @@ pub(crate) fn plain(samples: &[Sample], service: Service) -> Case<'_> {
         settings: PLAIN,
         targets: &[],
         count: 0,
-        claim: Claim {
-            service,
-            enabled: 0,
-        },
+        enablement: Enablement { service, watts: 0 },
     }
 }
 
@@ -78,15 +76,14 @@ pub(crate) fn ruled<R: ResponseRule>(
     let settings = Settings::new(case.settings)?;
     let trace = Trace::new(case.samples).ok_or("sound samples were expected")?;
     let disturbance = find_disturbance(trace).ok_or("a disturbance was expected")?;
-    Ok(deliver(
-        trace,
-        disturbance,
-        &settings,
+    let request = Request {
+        settings: &settings,
         rule,
-        case.targets,
-        case.count,
-        case.claim,
-    ))
+        targets: case.targets,
+        count: case.count,
+        enablement: case.enablement,
+    };
+    Ok(deliver(trace, disturbance, request))
 }
 
 // The answer under the variable rule, with the rate of the settings.

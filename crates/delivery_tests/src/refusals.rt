@@ -1,7 +1,7 @@
 // Every refusal of a delivery, and which comes first where several apply.
 use crate::asking::*;
 use crate::records::*;
-use figure::report::Claim;
+use figure::request::Enablement;
 use recording::sample::Sample;
 use response::service::Service;
 use response::settings::Proposal;
@@ -39,11 +39,11 @@ fn reaching() -> [Target; 2] {
     [target(0, 0), target(20_001, 0)]
 }
 
-fn enabling(enabled: i64, case: Case<'_>) -> Case<'_> {
+fn enabling(watts: i64, case: Case<'_>) -> Case<'_> {
     Case {
-        claim: Claim {
-            service: case.claim.service,
-            enabled,
+        enablement: Enablement {
+            service: case.enablement.service,
+            watts,
         },
         ..case
     }

@@ -4,15 +4,16 @@ use crate::long::*;
 use crate::records::*;
 use crate::rules::*;
 use disturbance::direction::Direction;
-use figure::report::{Claim, Verdict};
+use figure::report::Verdict;
+use figure::request::Enablement;
 use recording::sample::Sample;
 use response::service::Service;
 use response::weighing::Weight;
 use std::test::Fail;
 
-fn enabled(samples: &[Sample], service: Service, enabled: i64) -> Case<'_> {
+fn enabled(samples: &[Sample], service: Service, watts: i64) -> Case<'_> {
     Case {
-        claim: Claim { service, enabled },
+        enablement: Enablement { service, watts },
         ..plain(samples, service)
     }
 }

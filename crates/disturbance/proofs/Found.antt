@@ -1,12 +1,13 @@
 -- The disturbance, found place by place: it is one, and the only one.
 use Rattle.std.proofs.Common.{◌≡◌, ℕ, zero, suc, ◌+◌, ◌-◌, ◌<◌, ◌≤◌, List, length, Some, None, Option, refl, ap, ◌∙◌, subst, arith, below_more, MatchOption}
+use Rattle.std.specs.Option.{option_or}
 use Rattle.exact.specs.First.{First}
 use Rattle.exact.proofs.First.{first_unique}
 use Rattle.recording.specs.declared.sample.Sample.{Sample}
 use Rattle.disturbance.specs.declared.disturbance.Disturbance.{Disturbance}
 use Rattle.disturbance.specs.Trace.{at, Sound}
 use Rattle.disturbance.specs.Band.{Inside, Beyond, Outside}
-use Rattle.disturbance.specs.Disturbance.{Leaves, LeavesBy, OutsideAfter, Disturbed, Answers, leaving, or_else, disturbance_from, disturbance_of, DisturbanceLaws}
+use Rattle.disturbance.specs.Disturbance.{Leaves, LeavesBy, OutsideAfter, Disturbed, Answers, leaving, disturbance_from, disturbance_of, DisturbanceLaws}
 use Rattle.disturbance.proofs.Times.{next_time}
 use Rattle.disturbance.proofs.Scans.{line_here}
 use Rattle.disturbance.specs.declared.stretch.Stretch.{Stretch}
@@ -60,16 +61,16 @@ module _ (xs : List Sample) (s : Sound xs) where
   answers_from says (Some d) f =
       disturbed_at f.place d f.later f.there (λ j lt l. not_leaving j (found_as Leaving says (f.earlier j l.later lt)) l) (found_as Leaving says f.found)
 
-  or_else_lem : {N : Type 0} {F : Disturbance → Type 0} (o rest : Option Disturbance) → MatchOption o N F → ((d : Disturbance) → F d → Disturbed xs d) → (N → Answers xs rest) → Answers xs (or_else o rest)
-  or_else_lem (Some d) rest h found none = found d h
-  or_else_lem None rest h found none = none h
+  option_or_answers : {N : Type 0} {F : Disturbance → Type 0} (o rest : Option Disturbance) → MatchOption o N F → ((d : Disturbance) → F d → Disturbed xs d) → (N → Answers xs rest) → Answers xs (option_or o rest)
+  option_or_answers (Some d) rest h found none = found d h
+  option_or_answers None rest h found none = none h
 
   from_place : (left k : ℕ) → 1 ≤ k → left ≡ length xs - k → ((j : ℕ) → j < k → Leaves xs j → ⊥) → Answers xs (disturbance_from xs k left)
   unfolding disturbance_from
   from_place zero k one e below = λ j l. below j (omega (arith, l.there)) l
   from_place (suc left) k one e below =
       let there : k < length xs = omega arith in
-      or_else_lem (leaving (at xs (k - 1)) (at xs k)) (disturbance_from xs (k + 1) left) (leaving_is (at xs (k - 1)) (at xs k) (next_time xs s k one there) (s.1 k there).2)
+      option_or_answers (leaving (at xs (k - 1)) (at xs k)) (disturbance_from xs (k + 1) left) (leaving_is (at xs (k - 1)) (at xs k) (next_time xs s k one there) (s.1 k there).2)
       (λ d h. disturbed_at k d one there below h)
       (λ h. from_place left (k + 1) (omega arith) (omega arith) (below_more _ _ below (not_leaving k h)))
 

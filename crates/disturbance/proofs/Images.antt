@@ -1,5 +1,6 @@
 -- Records that are each other's mirror images: the same times, frequencies as far to the other side of nominal, and powers the other way.
 use Rattle.std.proofs.Common.{◌≡◌, ℕ, zero, suc, ◌+◌, ◌-◌, ◌*◌, ◌<◌, ◌≤◌, List, [], ◌∷◌, length, ℤ, pos, ◌+ℤ◌, ◌*ℤ◌, ◌<ℤ◌, neg_ℤ, Some, None, Option, sym, refl, ap, ◌∙◌, subst, inl, inr, add-one, arith}
+use Rattle.std.specs.Option.{option_or}
 use Rattle.std.specs.Prelude.{option_map}
 use Rattle.std.specs.List.{AllZip}
 use Rattle.std.proofs.Math.IntN.{neg_ℤ-neg_ℤ}
@@ -14,7 +15,7 @@ use Rattle.disturbance.specs.declared.disturbance.Disturbance.{Disturbance}
 use Rattle.disturbance.specs.Trace.{at}
 use Rattle.disturbance.specs.Band.{lowest, highest, Inside, Beyond, Outside}
 use Rattle.disturbance.specs.Direction.{dip, push}
-use Rattle.disturbance.specs.Disturbance.{Leaves, OutsideAfter, Disturbed, Undisturbed, leaves_to, leaving_time, timed, leaving, or_else, disturbance_from, disturbance_of}
+use Rattle.disturbance.specs.Disturbance.{Leaves, OutsideAfter, Disturbed, Undisturbed, leaves_to, leaving_time, timed, leaving, disturbance_from, disturbance_of}
 use Rattle.disturbance.specs.Line.{line, LineAt}
 use Rattle.disturbance.specs.Passing.{turned}
 use Rattle.disturbance.specs.Recovery.{recovery_dip, Recovered}
@@ -203,9 +204,9 @@ timed_image a b x y h k (Some d) = ap (λ t. Some (record { time = t; direction 
 leaving_image : (a b x y : Sample) → Images a x → Images b y → leaving x y ≡ option_map opposite (leaving a b)
 leaving_image a b x y h k = ap (timed x y) (leaves_to_image a b x y h k) ∙ timed_image a b x y h k (leaves_to a b)
 
-or_else_image : (o p : Option Disturbance) → or_else (option_map opposite o) (option_map opposite p) ≡ option_map opposite (or_else o p)
-or_else_image None p = refl
-or_else_image (Some d) p = refl
+option_or_image : (o p : Option Disturbance) → option_or (option_map opposite o) (option_map opposite p) ≡ option_map opposite (option_or o p)
+option_or_image None p = refl
+option_or_image (Some d) p = refl
 
 module _ (xs ys : List Sample) (h : AllZip Images xs ys) where
   from_image : (left k : ℕ) → 1 ≤ k → (0 < left → k + left ≤ length xs) → disturbance_from ys k left ≡ option_map opposite (disturbance_from xs k left)
@@ -215,9 +216,9 @@ module _ (xs ys : List Sample) (h : AllZip Images xs ys) where
       let le : k + suc left ≤ length xs = within (omega arith) in
       let here = leaving_image (at xs (k - 1)) (at xs k) (at ys (k - 1)) (at ys k) (image_at xs ys h (k - 1) (omega arith)) (image_at xs ys h k (omega arith)) in
       let rest = from_image left (k + 1) (omega arith) (λ more. omega arith) in
-      ap (λ o. or_else o (disturbance_from ys (k + 1) left)) here
-      ∙ ap (or_else (option_map opposite (leaving (at xs (k - 1)) (at xs k)))) rest
-      ∙ or_else_image (leaving (at xs (k - 1)) (at xs k)) (disturbance_from xs (k + 1) left)
+      ap (λ o. option_or o (disturbance_from ys (k + 1) left)) here
+      ∙ ap (option_or (option_map opposite (leaving (at xs (k - 1)) (at xs k)))) rest
+      ∙ option_or_image (leaving (at xs (k - 1)) (at xs k)) (disturbance_from xs (k + 1) left)
 
   pub worked_out_image : disturbance_of ys ≡ option_map opposite (disturbance_of xs)
   unfolding disturbance_of

@@ -1,10 +1,11 @@
 -- A straight line that climbs to a goal reaches it first at a rounded-up quotient.
 use Rattle.std.proofs.Common.{◌≡◌, ℕ, ◌+◌, ◌-◌, ◌*◌, ◌/◌, ◌<◌, ◌≤◌, sym, ap, ◌∙◌, subst, inl, inr, mul-le-mul_right, mul-le-mul_left, arith}
 use native.Mathlib.Nat.{mul-div-le, lt-mul-div-succ}
+use Rattle.std.specs.Int.{div_ceil}
 use Rattle.std.proofs.lemmas.Bool.{cases_lt}
 use Rattle.std.proofs.lemmas.Grind.{div_ceil_times}
 use Rattle.exact.specs.First.{First}
-use Rattle.disturbance.specs.Crossing.{rounded_up, Reached}
+use Rattle.disturbance.specs.Crossing.{Reached}
 
 -- q steps of d make up m, and no fewer do
 pub record Steps (m d q : ℕ) : Type 0 where
@@ -12,7 +13,7 @@ pub record Steps (m d q : ℕ) : Type 0 where
   pub least : d * q < m + d
 
 module _ (m d : ℕ) (some : 0 < d) where
-  pub rounded_steps : (q : ℕ) → q ≡ rounded_up m d → Steps m d q
+  pub rounded_steps : (q : ℕ) → q ≡ div_ceil m d → Steps m d q
   rounded_steps q is =
       let e = ap (λ n. n * d) is in
       let h = div_ceil_times m d some in

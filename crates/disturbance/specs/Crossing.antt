@@ -1,9 +1,5 @@
 -- A straight line that reaches a goal, in whole numbers.
-use Rattle.std.specs.Prelude.{ℕ, ◌+◌, ◌-◌, ◌*◌, ◌/◌, ◌%◌, ◌≤◌, min}
-
--- a quotient, rounded up: one more where something is left over
-abbrev pub rounded_up : ℕ → ℕ → ℕ
-rounded_up amount step = amount / step + min 1 (amount % step)
+use Rattle.std.specs.Prelude.{ℕ, ◌+◌, ◌-◌, ◌*◌, ◌≤◌}
 
 -- at the time u, of from to end, the line from x at start to y at end, taken end - start times, is at least goal
 pub record Reached (start x end y goal from u : ℕ) : Type 0 where

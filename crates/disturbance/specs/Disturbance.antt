@@ -1,5 +1,6 @@
 -- The disturbance: when the line leaves the band, and on which side.
 use Rattle.std.specs.Prelude.{◌≡◌, ℕ, zero, suc, ◌+◌, ◌-◌, ◌*◌, ◌/◌, ◌<◌, ◌≤◌, cond, ◌&&◌, List, length, Some, None, Option, MatchOption, nat_le, nat_lt}
+use Rattle.std.specs.Option.{option_or}
 use Rattle.exact.specs.First.{First}
 use Rattle.recording.specs.declared.sample.Sample.{Sample}
 use Rattle.disturbance.specs.declared.direction.Direction.{Direction}
@@ -61,15 +62,10 @@ timed a b None = None
 abbrev pub leaving : Sample → Sample → Option Disturbance
 leaving a b = timed a b (leaves_to a b)
 
--- the first that is there
-abbrev pub or_else : Option Disturbance → Option Disturbance → Option Disturbance
-or_else (Some d) other = Some d
-or_else None other = other
-
 -- the first disturbance between neighbours from place k on, over the places that are left
 unfoldable pub disturbance_from : List Sample → ℕ → ℕ → Option Disturbance
 disturbance_from xs k zero = None
-disturbance_from xs k (suc left) = or_else (leaving (at xs (k - 1)) (at xs k)) (disturbance_from xs (k + 1) left)
+disturbance_from xs k (suc left) = option_or (leaving (at xs (k - 1)) (at xs k)) (disturbance_from xs (k + 1) left)
 
 -- the disturbance of a list of samples, or none
 unfoldable pub disturbance_of : List Sample → Option Disturbance

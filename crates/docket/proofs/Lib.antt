@@ -4,9 +4,9 @@ pub mod Pushed
 pub mod Loads
 pub mod Writing
 pub mod Histories
-pub mod Leading
 pub mod Delivered
 pub mod SentBack
 pub mod InTurn
 pub mod CloseRule
+pub mod Following
 pub mod Edits

@@ -1,5 +1,6 @@
 -- The reasons against a reading are those against its sample.
 use Rattle.std.proofs.Common.{◌≡◌, ℕ, Bool, true, false, cond, not, leb, List, [], ◌∷◌, ◌++◌, length, take, set, Some, None, Ok, Err, Option, Result, MatchResult, subst, sym, refl, ap, ◌∙◌}
+use Rattle.std.specs.Option.{option_or, option_to_list}
 use Rattle.recording.specs.declared.refusal.Field.{Field}
 use Rattle.recording.specs.declared.refusal.Field.TheVariants.{Time, Frequency, Power}
 use Rattle.recording.specs.declared.refusal.Reason.{Reason}
@@ -9,7 +10,7 @@ use Rattle.recording.specs.Refusals.{refusal}
 use Rattle.recording.specs.declared.sample.Sample.{Sample}
 use Rattle.recording.specs.declared.reading.Reading.{Reading}
 use Rattle.recording.specs.Readings.{time_of, sampled}
-use Rattle.std.specs.Result.{result_and}
+use Rattle.std.specs.Result.{result_and, result_ok, result_err}
 use Rattle.timeline.specs.Checks.{Check, first_of, Allows}
 use Rattle.timeline.specs.Entries.{Kind}
 use Rattle.timeline.specs.Samples.{samples}
@@ -20,7 +21,7 @@ use Rattle.timeline.proofs.Checks.{Told, the_first, ok_none, err_some}
 use Rattle.timeline.proofs.Orders.{decides_leb, decides_misplaced}
 use Rattle.timeline.proofs.Faults.{told_table, told_append, told_limits}
 use Rattle.docket.specs.Dockets.{PutsReading, AmendsReading}
-use Rattle.docket.specs.Reasons.{readings, field_outside, samples_in, sample_list, replaced, amended, put_reasons, amend_reasons}
+use Rattle.docket.specs.Reasons.{readings, samples_in, replaced, amended, put_reasons, amend_reasons}
 use Rattle.docket.proofs.Limits.{sampled_within, sampled_time}
 
 -- ---- an entry within its limits, and one that is not
@@ -37,7 +38,7 @@ field_first kind e f next h = simp h (field_first_at f (first_of next))
 
 -- ---- a reading and its sample
 reading_within : (r : Reading) (s : Sample) → sampled r ≡ Ok s → readings.outside r ≡ None
-reading_within r s e = ap field_outside e
+reading_within r s e = ap result_err e
 
 pub append_same : (places count : ℕ) (before : Option ℕ) (r : Reading) (s : Sample) → sampled r ≡ Ok s → first_of (append_faults samples places count before s) ≡ first_of (append_faults readings places count before r)
 append_same places count before r s e =
@@ -64,7 +65,7 @@ pub put_reading_lem : (n : ℕ) (t : List Sample) (r : Reading) (s : Sample) (a 
 put_reading_lem n t r s a new e p =
     outcome_as (put_checks samples n t s) (other_table samples n t ∷ put_reasons (length t) (take n t) r) (λ why. refusal why n 0) (take n t ++ s ∷ []) (take n t ++ samples_in r) t a new
     (ap (λ (o : Option Reason). cond (not (is_sound samples n t)) (Some OtherTable) o) (append_same (length t) (length (take n t)) (time_before samples (take n t) (length (take n t))) r s e))
-    (ap (λ (x : Result Sample Field). take n t ++ sample_list x) (sym e))
+    (ap (λ (x : Result Sample Field). take n t ++ option_to_list (result_ok x)) (sym e))
     (told_put n t r)
     p.outcome
 
@@ -85,15 +86,11 @@ refused_outcome cs why place xs old t e =
     record { first = the_first cs t; answer = ap (answered (λ w. refusal w place 0) (length xs)) (sym e); table = ap (λ (o : Option Reason). written o xs old) (sym e) }
 
 -- the first fault of a list, or else that of what follows it
-abbrev or_else : Option Reason → Option Reason → Option Reason
-or_else None rest = rest
-or_else (Some why) rest = Some why
-
-first_by_test : (b : Bool) (why : Reason) (here more rest : Option Reason) → more ≡ or_else here rest → cond b (Some why) more ≡ or_else (cond b (Some why) here) rest
+first_by_test : (b : Bool) (why : Reason) (here more rest : Option Reason) → more ≡ option_or here rest → cond b (Some why) more ≡ option_or (cond b (Some why) here) rest
 first_by_test true why here more rest e = refl
 first_by_test false why here more rest e = e
 
-first_in_turn : (cs ds : List (Check Reason)) → first_of (cs ++ ds) ≡ or_else (first_of cs) (first_of ds)
+first_in_turn : (cs ds : List (Check Reason)) → first_of (cs ++ ds) ≡ option_or (first_of cs) (first_of ds)
 first_in_turn [] ds = refl
 first_in_turn (c ∷ cs) ds = first_by_test c.test c.answer (first_of cs) (first_of (cs ++ ds)) (first_of ds) (first_in_turn cs ds)
 
@@ -103,12 +100,12 @@ outside_told front next place xs t r f (Ok done) told a all e h q m =
     let is : a ≡ Err (refusal (OutsideLimits f) place 0) = subst (λ (x : Result ℕ Reason). MatchResult x (λ x. a ≡ Ok x) (λ why. a ≡ Err (refusal why place 0))) q m in
     let none : first_of front ≡ None = ok_none _ _ _ h.answer in
     rw is (refused_outcome (front ++ outside_limits readings r next) (OutsideLimits f) place xs t all
-    (first_in_turn front (outside_limits readings r next) ∙ ap (λ (o : Option Reason). or_else o (first_of (outside_limits readings r next))) none ∙ field_first readings r f next (ap field_outside e)))
+    (first_in_turn front (outside_limits readings r next) ∙ ap (λ (o : Option Reason). option_or o (first_of (outside_limits readings r next))) none ∙ field_first readings r f next (ap result_err e)))
 outside_told front next place xs t r f (Err why) told a all e h q m =
     let is : a ≡ Err (refusal why place 0) = subst (λ (x : Result ℕ Reason). MatchResult x (λ x. a ≡ Ok x) (λ why. a ≡ Err (refusal why place 0))) q m in
     let some : first_of front ≡ Some why = err_some _ _ _ h.answer in
     rw is (refused_outcome (front ++ outside_limits readings r next) why place xs t all
-    (first_in_turn front (outside_limits readings r next) ∙ ap (λ (o : Option Reason). or_else o (first_of (outside_limits readings r next))) some))
+    (first_in_turn front (outside_limits readings r next) ∙ ap (λ (o : Option Reason). option_or o (first_of (outside_limits readings r next))) some))
 
 -- so put's refusal of a reading once the table is checked, and amend's once a strike is
 pub put_outside : (n : ℕ) (t : List Sample) (r : Reading) (f : Field) (checked : Result (Unit {0}) Reason) (told : Result ℕ Reason) (a : Result ℕ Refusal) → sampled r ≡ Err f → Allows (other_table samples n t ∷ []) (tt {0}) checked → told ≡ result_and checked (Err (OutsideLimits f)) → MatchResult told (λ x. a ≡ Ok x) (λ why. a ≡ Err (refusal why n 0)) → PutsReading n t r a t

@@ -1,9 +1,9 @@
 pub mod Reasons
 pub mod Loading
 pub mod Accepted
-pub mod Requests
 pub mod Deliveries
-pub mod History
+pub mod Calls
+pub mod Steps
 pub mod Dockets
 pub mod Records
 pub mod Loads

@@ -1,11 +1,14 @@
 -- What holds of every accepted record, whatever the calls that led to it, and what each accepted call makes of its samples.
-use Rattle.std.specs.Prelude.{◌≡◌, ℕ, ◌≤◌, List, [], ◌∷◌, ◌++◌, length, Ok}
+use Rattle.std.specs.Prelude.{◌≡◌, ℕ, ◌≤◌, List, [], ◌∷◌, ◌++◌, length, Ok, Result}
+use Rattle.recording.specs.declared.refusal.Refusal.{Refusal}
 use Rattle.recording.specs.declared.sample.Sample.{Sample}
 use Rattle.recording.specs.declared.reading.Reading.{Reading}
 use Rattle.recording.specs.Readings.{Gives}
 use Rattle.disturbance.specs.Trace.{Sound}
-use Rattle.docket.specs.Accepted.{Accepted, samples_of, put_record, put_answer, amend_record, amend_answer, strike_record, strike_answer, close_answer}
-use Rattle.docket.specs.History.{History}
+use Rattle.disturbance.specs.declared.disturbance.Disturbance.{Disturbance}
+use Rattle.docket.specs.Accepted.{Accepted, samples_of, put_edit, amend_edit, strike_edit, Closes}
+use Rattle.docket.specs.Calls.{Meaning, Outcome}
+use Rattle.docket.specs.Steps.{Step, History}
 use Rattle.docket.specs.Dockets.{ClosesExactly}
 
 -- samples within their limits, at times that strictly rise; with places in a table of so many, and at most 4,096
@@ -18,9 +21,16 @@ pub record IsTimeline (places : ℕ) (xs : List Sample) : Type 0 where
 abbrev pub RecordsAreTimelines : Type 0
 RecordsAreTimelines = (places : ℕ) (a : Accepted) → History places a → IsTimeline places (samples_of a)
 
--- and what close says of them is what the rule of the disturbance says
+-- and close has an answer on them, which is what the rule of the disturbance says
 abbrev pub RecordsCloseExactly : Type 0
-RecordsCloseExactly = (places : ℕ) (a : Accepted) → History places a → ClosesExactly (samples_of a) (close_answer (samples_of a))
+RecordsCloseExactly =
+    (places : ℕ) (a : Accepted) → History places a → (o : Result Disturbance Refusal) × Closes (samples_of a) o × ClosesExactly (samples_of a) o
+
+-- a history with one step more is a history, and leads to the record of that step
+abbrev pub StepsGoOn : Type 0
+StepsGoOn =
+    (places : ℕ) (a : Accepted) (c : Meaning) (x : Outcome) (b : Accepted)
+    → History places a → Step places a c x b → History places b
 
 -- ys are the samples xs with the one that the reading gives at the end
 pub record AddedAtTheEnd (xs : List Sample) (r : Reading) (ys : List Sample) : Type 0 where
@@ -51,14 +61,14 @@ pub record TakenOutAt (i : ℕ) (xs ys : List Sample) : Type 0 where
 -- an accepted put, amend and strike do that to the accepted samples, and answer how many there are then
 abbrev pub PutsAdd : Type 0
 PutsAdd =
-    (places : ℕ) (xs : List Sample) (r : Reading) (n : ℕ) → put_answer places xs r ≡ Ok n
-    → AddedAtTheEnd xs r (put_record places xs r) × (n ≡ length (put_record places xs r))
+    (places : ℕ) (xs : List Sample) (r : Reading) (n : ℕ) → (put_edit places xs r).answer ≡ Ok n
+    → AddedAtTheEnd xs r (put_edit places xs r).samples × (n ≡ length (put_edit places xs r).samples)
 
 abbrev pub AmendsReplace : Type 0
 AmendsReplace =
-    (xs : List Sample) (i : ℕ) (r : Reading) (n : ℕ) → amend_answer xs i r ≡ Ok n
-    → ReplacedAt i xs r (amend_record xs i r) × (n ≡ length (amend_record xs i r))
+    (xs : List Sample) (i : ℕ) (r : Reading) (n : ℕ) → (amend_edit xs i r).answer ≡ Ok n
+    → ReplacedAt i xs r (amend_edit xs i r).samples × (n ≡ length (amend_edit xs i r).samples)
 
 abbrev pub StrikesTakeOut : Type 0
 StrikesTakeOut =
-    (xs : List Sample) (i n : ℕ) → strike_answer xs i ≡ Ok n → TakenOutAt i xs (strike_record xs i) × (n ≡ length (strike_record xs i))
+    (xs : List Sample) (i n : ℕ) → (strike_edit xs i).answer ≡ Ok n → TakenOutAt i xs (strike_edit xs i).samples × (n ≡ length (strike_edit xs i).samples)

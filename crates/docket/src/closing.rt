@@ -1,9 +1,8 @@
 // Closing a docket on the disturbance of its samples.
-ghost use Rattle.std.specs.Prelude.{◌≡◌, cond, take, Err};
-ghost use Rattle.std.specs.Option.{ok_or};
-ghost use Rattle.timeline.specs.Orders.{Sound, is_sound as sound};
+ghost use Rattle.std.specs.Prelude.{◌≡◌, take, Err, MatchResult};
+ghost use Rattle.timeline.specs.Orders.{Sound};
 ghost use Rattle.timeline.specs.Samples.{samples};
-ghost use Rattle.disturbance.specs.Disturbance.{disturbance_of};
+ghost use Rattle.disturbance.specs.Disturbance.{Disturbed, Undisturbed, Answers};
 
 use disturbance::disturbance::{Disturbance, find_disturbance};
 use disturbance::trace::Trace;
@@ -13,9 +12,10 @@ use timeline::fault::check_table;
 
 // The disturbance to close on, or why there is none.
 pub(crate) fn closing_disturbance(table: &[Sample], count: usize) -> Result<Disturbance, Reason>
-    ensures { result ≡ cond (sound samples count table.now)
-        (ok_or (disturbance_of (take count table.now)) Reason.NoDisturbance)
-        (Err Reason.OtherTable) }
+    ensures own { Sound samples count table.now → MatchResult result
+        (λ d. Disturbed (take count table.now) d)
+        (λ why. Undisturbed (take count table.now) × (why ≡ Reason.NoDisturbance)) }
+    ensures other { (Sound samples count table.now → ⊥) → result ≡ Err Reason.OtherTable }
 {
     check_table(table, count)?;
     counted_disturbance(table, count).ok_or(Reason::NoDisturbance)
@@ -25,7 +25,7 @@ pub(crate) fn closing_disturbance(table: &[Sample], count: usize) -> Result<Dist
 // and `Trace::new` would check them again.
 fn counted_disturbance(table: &[Sample], count: usize) -> Option<Disturbance>
     requires { Sound samples count table.now }
-    ensures { result ≡ disturbance_of (take count table.now) }
+    ensures { Answers (take count table.now) result }
 {
     let samples = &table[0..count];
     find_disturbance(Trace { samples })

@@ -1,14 +1,14 @@
 // A delivery on a closed docket: the table has to be the docket's, and the figure is that of its counted samples.
 ghost use Rattle.std.specs.Prelude.{◌≡◌, take, Some, Decides, MatchResult};
-ghost use Rattle.disturbance.specs.Disturbance.{disturbance_of};
+ghost use Rattle.disturbance.specs.Disturbance.{Disturbed, disturbance_of};
+ghost use Rattle.figure.specs.Asked.{asked};
 ghost use Rattle.docket.specs.Deliveries.{Belongs, Delivered};
-ghost use Rattle.docket.specs.Requests.{sought};
 
-use crate::request::Request;
 use delivery::deliver::deliver;
 use disturbance::disturbance::{Disturbance, find_disturbance};
 use disturbance::trace::Trace;
 use figure::report::Report;
+use figure::request::Request;
 use recording::refusal::{Reason, Refusal};
 use recording::sample::Sample;
 use response::rule::ResponseRule;
@@ -48,16 +48,9 @@ pub(crate) fn deliver_on<R: ResponseRule>(
     disturbance: Disturbance,
     request: Request<'_, R>,
 ) -> Result<Report, Refusal>
-    requires { disturbance_of trace.samples.now ≡ Some disturbance }
+    requires { Disturbed trace.samples.now disturbance }
     ensures { Delivered trace.entry.samples.now
-        (sought R.ResponseRule.triggers R.ResponseRule.weighs request.entry) result }
+        (asked R.ResponseRule.triggers R.ResponseRule.weighs request.entry) result }
 {
-    let Request {
-        settings,
-        rule,
-        targets,
-        count,
-        claim,
-    } = request;
-    deliver(trace, disturbance, settings, rule, targets, count, claim)
+    deliver(trace, disturbance, request)
 }

@@ -7,4 +7,3 @@ pub mod docket;
 mod loading;
 mod putting;
 pub mod records;
-pub mod request;

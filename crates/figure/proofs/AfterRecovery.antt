@@ -1,126 +1,97 @@
--- No report and no refusal changes with the powers at or after recovery.
-use Rattle.std.proofs.Common.{◌≡◌, ℕ, ◌-◌, ◌⊎◌, List, ℤ, pos, ◌<ℤ◌, Some, None, Option, Result, sym, ap, ◌∙◌, subst, inl, inr, arith}
+-- No report and no refusal changes with the powers at or after recovery: times and frequencies stay, and with them recovery, trigger time and
+-- defects; the powers before recovery stay, and with them the values.
+use Rattle.std.proofs.Common.{◌≡◌, ℕ, ◌+◌, ◌≤◌, leb, Bool, true, false, cond, List, [], ◌∷◌, ℤ, Some, None, filter, Option, option_map, Result, refl, ap, ◌∙◌, subst, arith}
 use Rattle.std.specs.List.{AllZip}
-use Rattle.std.proofs.lemmas.List.Elements.{length_all_zip}
+use Rattle.std.proofs.Math.Path.{fun_ext}
+use Rattle.std.proofs.lemmas.Bool.{ltb-true, leb-true, and_parts}
 use Rattle.exact.specs.First.{FirstOrNone}
-use Rattle.exact.specs.Fractions.{Fraction}
-use Rattle.exact.specs.Averages.{mean}
 use Rattle.exact.proofs.First.{answer_unique}
-use Rattle.recording.specs.declared.refusal.Reason.{Reason}
 use Rattle.recording.specs.declared.refusal.Refusal.{Refusal}
 use Rattle.recording.specs.declared.sample.Sample.{Sample}
-use Rattle.timeline.specs.Checks.{FirstFault}
-use Rattle.timeline.proofs.Checks.{fault_over}
+use Rattle.disturbance.specs.declared.direction.Direction.{Direction}
 use Rattle.disturbance.specs.declared.disturbance.Disturbance.{Disturbance}
 use Rattle.disturbance.specs.Recovery.{Recovered}
+use Rattle.disturbance.specs.Trigger.{Before}
+use Rattle.response.specs.declared.base.BaseWindow.{BaseWindow}
 use Rattle.response.specs.declared.group.Window.{Window}
-use Rattle.response.specs.declared.setup.Trigger.{Trigger}
 use Rattle.figure.specs.declared.point.Point.{Point}
 use Rattle.figure.specs.declared.report.Report.{Report}
-use Rattle.figure.specs.declared.span.Span.{Span}
-use Rattle.figure.specs.Steps.{to_half_up, base_points, used_points, base_push, compensated, value_of, value_in, or_none, lesser_of}
-use Rattle.figure.specs.Asked.{Asked, Times, points_of, targets_of, shift_in, first_span, second_span, case_of}
-use Rattle.figure.specs.Defects.{MissedByTargets, NeverTriggered, Beyond, Gapped, AtShift, defects}
+use Rattle.figure.specs.Points.{turned, course}
+use Rattle.figure.specs.Steps.{to_half_up, is_base, is_used, value, lesser_of}
+use Rattle.figure.specs.Asked.{Asked, points_of, case_of}
 use Rattle.figure.specs.Reports.{Reports, AnswerIs}
-use Rattle.figure.specs.Laws.{AlikeBefore, with_samples, PowerAfterRecovery}
-use Rattle.figure.proofs.Alike.{turn_each, all_times, alike_at, triggered_over, same_recovery, same_trigger, same_used, same_base}
+use Rattle.figure.specs.Laws.{AlikeBefore, PowerAfterRecovery}
+use Rattle.figure.proofs.Alike.{SameFrequencies, same_times, same_defects}
+use Rattle.figure.proofs.Curves.{value_over}
 
--- ---- what the defects and the values rest on
+frequencies : (R : Option ℕ) (xs ys : List Sample) → AllZip (AlikeBefore R) xs ys → SameFrequencies xs ys
+frequencies R [] [] h = tt
+frequencies R [] (y ∷ ys) h = absurd h
+frequencies R (x ∷ xs) [] h = absurd h
+frequencies R (x ∷ xs) (y ∷ ys) h = (record { time = h.0.time; frequency = h.0.frequency }, frequencies R xs ys h.1)
 
--- the points of what is asked that count for its base
-abbrev base_samples : Asked → List Point
-base_samples a = base_points a.disturbance.time a.settings.base (points_of a)
+-- ---- points before recovery, which have the same power
+same_turned : (R : Option ℕ) (d : Direction) (s t : Sample) → AlikeBefore R s t → Before R s.time → turned d s ≡ turned d t
+same_turned R d s t h before = let e = h.power before in cc
 
--- the values of windows, by the base points and the used points
-abbrev values_from : Asked → List Point → List Point → Window → Fraction
-values_from a base used = value_of to_half_up (compensated to_half_up a.weight a.disturbance.time (to_half_up (mean (base_push to_half_up a.disturbance.direction (targets_of a) a.disturbance.time) base))) used
+same_if_kept : (b : Bool) (p q : Point) (ps qs : List Point) → (b ≡ true → p ≡ q) → ps ≡ qs → cond b (p ∷ ps) ps ≡ cond b (q ∷ qs) qs
+same_if_kept true p q ps qs same rest = let e = same refl in cc
+same_if_kept false p q ps qs same rest = rest
 
--- one fault of a checking order goes over, and then the rest
-pub same_fault : {A W F G : Type 0} → (F → G) → (A × W) ⊎ ((A → ⊥) × F) → (A × W) ⊎ ((A → ⊥) × G)
-same_fault rest = fault_over (λ p. p) (λ p. p) rest
+-- a test of times keeps the same points, if it keeps none from recovery on
+same_kept : (R : Option ℕ) (d : Direction) (test : ℕ → Bool) → ((t : ℕ) → test t ≡ true → Before R t) → (xs ys : List Sample) → AllZip (AlikeBefore R) xs ys → filter (λ p. test p.time) (course d xs) ≡ filter (λ p. test p.time) (course d ys)
+same_kept R d test before [] [] h = refl
+same_kept R d test before [] (y ∷ ys) h = absurd h
+same_kept R d test before (x ∷ xs) [] h = absurd h
+same_kept R d test before (x ∷ xs) (y ∷ ys) h =
+    let same : test x.time ≡ true → turned d x ≡ turned d y = λ e. same_turned R d x y h.0 (before x.time e) in
+    rw (← ap test h.0.time) (same_if_kept (test x.time) (turned d x) (turned d y) _ _ same (same_kept R d test before xs ys h.1))
 
-module _ (R : Option ℕ) (xs ys : List Sample) (h : AllZip (AlikeBefore R) xs ys) where
-  never_over : (d : Disturbance) (g : Option Trigger) → NeverTriggered xs d R g → NeverTriggered ys d R g
-  never_over d g n = record { dip = n.dip; has = n.has; never = λ t r. n.never t (triggered_over R ys xs (turn_each R xs ys h) d n.dip.dip t r) }
+used_before : (R : Option ℕ) (t : ℕ) → is_used R t ≡ true → Before R t
+used_before None t e = tt
+used_before (Some recovery) t e = ltb-true t recovery e
 
-  beyond_over : (w : Span) → Beyond xs w → Beyond ys w
-  beyond_over w (some, side) =
-      elim side [
-        | inl early ↦ (some, inl (all_times R xs ys h (λ t. w.start <ℤ pos t) early))
-        | inr late ↦ (some, inr (all_times R xs ys h (λ t. pos t <ℤ w.end) late))
-      ]
-
-  gapped_over : (widest : ℕ) (w : Span) → Gapped xs widest w → Gapped ys widest w
-  gapped_over widest w g =
-      let earlier = alike_at R xs ys h (g.place - 1) (omega arith) in
-      let here = alike_at R xs ys h g.place g.there in
-      record {
-        place = g.place;
-        later = g.later;
-        there = omega (arith, length_all_zip (AlikeBefore R) xs ys h);
-        shares = rw (← earlier.time, ← here.time) g.shares;
-        wide = omega arith;
-      }
+-- recovery is after the disturbance time, and no base point is
+base_before : (R : Option ℕ) (xs : List Sample) (d : Disturbance) (base : BaseWindow) → FirstOrNone (Recovered xs d) R → (t : ℕ) → is_base d.time base t ≡ true → Before R t
+base_before None xs d base first t e = tt
+base_before (Some recovery) xs d base first t e =
+    let upto : t + base.end ≤ d.time = leb-true (t + base.end) d.time (and_parts (leb d.time (t + base.begin)) (leb (t + base.end) d.time) e).1 in
+    omega (arith, first.holds.0)
 
 -- ---- what is asked, at its recovery, and of samples alike
+module _ (xs : List Sample) (d : Disturbance) (a : Asked) (R : Option ℕ) (first : FirstOrNone (Recovered xs d) R) (ys : List Sample) (h : AllZip (AlikeBefore R) xs ys) where
+  same_value : (z : ℤ) (w : Window) → value to_half_up (case_of xs d a R z) w ≡ value to_half_up (case_of ys d a R z) w
+  same_value z =
+      let base = same_kept R d.direction (is_base d.time a.settings.base) (base_before R xs d a.settings.base first) xs ys h in
+      value_over to_half_up (case_of xs d a R z) (points_of ys d) a.settings.base base (same_kept R d.direction (is_used R) (used_before R) xs ys h)
 
-module _ (a : Asked) (R : Option ℕ) (first : FirstOrNone (Recovered a.samples a.disturbance) R) (ys : List Sample) (h : AllZip (AlikeBefore R) a.samples ys) where
-  same_times : (S : Option ℕ) → Times a R S → Times (with_samples a ys) R S
-  same_times S t = record { recovers = same_recovery R a.samples ys h a.disturbance first; triggers = same_trigger R a.samples ys h a.disturbance a.trigger S t.triggers }
-
-  same_base_samples : base_samples a ≡ base_samples (with_samples a ys)
-  same_base_samples = same_base R a.samples ys h a.disturbance a.settings.base first
-
-  -- what holds of either window goes over
-  either_over : {P Q : Span → Type 0} (S : Option ℕ) → ((w : Span) → P w → Q w) → AtShift (shift_in a S) (λ z. P (first_span a R z) ⊎ P (second_span a R z)) → AtShift (shift_in a S) (λ z. Q (first_span a R z) ⊎ Q (second_span a R z))
-  either_over S over (z, is, either) = (z, is, elim either [ inl p ↦ inl (over (first_span a R z) p) | inr p ↦ inr (over (second_span a R z) p) ])
-
-  same_defects : (S : Option ℕ) (why : Option Reason) → FirstFault (defects a R S) why → FirstFault (defects (with_samples a ys) R S) why
-  same_defects S why =
-      let xs = a.samples in
-      let back = turn_each R xs ys h in
-      let e = same_base_samples in
-      let missed = MissedByTargets (targets_of a) a.disturbance.time in
-      let gap = a.row.widest_gap in
-      same_fault (same_fault (same_fault (
-      fault_over (λ p. sym e ∙ p) (λ p. e ∙ p) (
-      fault_over (subst missed e) (subst missed (sym e)) (
-      fault_over (never_over R xs ys h a.disturbance a.trigger) (never_over R ys xs back a.disturbance a.trigger) (
-      same_fault (
-      fault_over (either_over S (beyond_over R xs ys h)) (either_over S (beyond_over R ys xs back)) (
-      fault_over (either_over S (gapped_over R xs ys h gap)) (either_over S (gapped_over R ys xs back gap)) (λ p. p)))))))))
-
-  same_values : (z : ℤ) → value_in to_half_up (case_of a R z) ≡ value_in to_half_up (case_of (with_samples a ys) R z)
-  same_values z =
-      let f = same_used R a.samples ys h a.disturbance.direction in
-      ap (λ base. values_from a base (used_points R (points_of a))) same_base_samples ∙ ap (values_from a (base_samples (with_samples a ys))) f
-
-  same_reports : (z : ℤ) (report : Report) → Reports a R z report → Reports (with_samples a ys) R z report
+  same_reports : (z : ℤ) (report : Report) → Reports xs d a R z report → Reports ys d a R z report
   same_reports z report r =
-      let e = same_values z in
-      let c = case_of a R z in
+      let c = case_of xs d a R z in
+      let e : value to_half_up c ≡ value to_half_up (case_of ys d a R z) = fun_ext (same_value z) in
       record {
         time = r.time;
         recovery = r.recovery;
-        first = r.first ∙ ap (λ value. value c.first) e;
-        second = r.second ∙ ap (λ value. or_none value c.second) e;
-        watts = r.watts ∙ ap (λ value. lesser_of (value c.first) (or_none value c.second)) e;
+        first = r.first ∙ same_value z c.first;
+        second = r.second ∙ ap (λ f. option_map f c.second) e;
+        watts = r.watts ∙ ap (λ f. lesser_of (f c.first) (option_map f c.second)) e;
         verdict = r.verdict;
       }
 
-  same_answer : (S : Option ℕ) (why : Option Reason) (r : Result Report Refusal) → AnswerIs a R S why r → AnswerIs (with_samples a ys) R S why r
-  same_answer S (Some why) r is = is
+  same_answer : (S : Option ℕ) (defect : Option Refusal) (r : Result Report Refusal) → AnswerIs xs d a R S defect r → AnswerIs ys d a R S defect r
+  same_answer S (Some f) r is = is
   same_answer S None r (z, report, shifted, is, reports) = (z, report, shifted, is, same_reports z report reports)
 
 pub power_after_recovery : PowerAfterRecovery
-power_after_recovery a R first ys alike r d =
-    let once = answer_unique (Recovered a.samples a.disturbance) R d.recovery first d.times.recovers in
-    let h = subst (λ o. AllZip (AlikeBefore o) a.samples ys) once alike in
+power_after_recovery xs d a R first ys alike r given =
+    let once = answer_unique (Recovered xs d) R given.recovery first given.times.recovers in
+    let h = subst (λ o. AllZip (AlikeBefore o) xs ys) once alike in
+    let same = frequencies given.recovery xs ys h in
     record {
-      recovery = d.recovery;
-      trigger_time = d.trigger_time;
-      times = same_times a d.recovery d.times.recovers ys h d.trigger_time d.times;
-      why = d.why;
-      first = same_defects a d.recovery d.times.recovers ys h d.trigger_time d.why d.first;
-      answer = same_answer a d.recovery d.times.recovers ys h d.trigger_time d.why r d.answer;
+      recovery = given.recovery;
+      trigger_time = given.trigger_time;
+      times = same_times xs d a given.recovery given.trigger_time ys same given.times;
+      defect = given.defect;
+      first = same_defects xs d a given.recovery given.trigger_time ys same given.defect given.first;
+      answer = same_answer xs d a given.recovery given.times.recovers ys h given.trigger_time given.defect r given.answer;
     }

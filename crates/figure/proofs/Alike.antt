@@ -1,51 +1,83 @@
--- Records that are alike but for powers at or after recovery: the same times and lines, and the same points before recovery.
-use Rattle.std.proofs.Common.{◌≡◌, ℕ, ◌+◌, ◌-◌, ◌<◌, ◌≤◌, Bool, true, false, cond, ◌&&◌, ltb, leb, List, [], ◌∷◌, length, ℤ, pos, Some, None, filter, Option, sym, refl, ap, subst, arith}
+-- Records with the same times and frequencies, whatever their powers: the same recovery, trigger time and defects.
+use Rattle.std.proofs.Common.{◌≡◌, ℕ, ◌-◌, ◌<◌, ◌⊎◌, Bool, true, false, cond, List, [], ◌∷◌, length, ℤ, pos, ◌<ℤ◌, Some, None, filter, Option, sym, refl, ap, subst, inl, inr, arith}
 use Rattle.std.specs.List.{AllZip, AllByRecursion}
 use Rattle.std.proofs.lemmas.List.Elements.{AllZip-get_or, length_all_zip}
-use Rattle.std.proofs.lemmas.Bool.{ltb-true, leb-true, and_parts}
-use Rattle.exact.specs.First.{FirstOrNone}
 use Rattle.exact.specs.Fractions.{Fraction, whole, ◌≼◌, ◌≺◌}
 use Rattle.exact.proofs.First.{answer_as}
+use Rattle.recording.specs.declared.refusal.Refusal.{Refusal}
 use Rattle.recording.specs.declared.sample.Sample.{Sample}
+use Rattle.timeline.specs.declared.target.Target.{Target}
+use Rattle.timeline.specs.Checks.{FirstFault}
+use Rattle.timeline.proofs.Checks.{fault_over}
 use Rattle.disturbance.specs.declared.direction.Direction.{Direction}
 use Rattle.disturbance.specs.declared.disturbance.Disturbance.{Disturbance}
 use Rattle.disturbance.specs.Direction.{dip}
 use Rattle.disturbance.specs.Line.{line, LineAt}
 use Rattle.disturbance.specs.Recovery.{recovery_dip, Recovered}
 use Rattle.disturbance.specs.Trace.{at}
-use Rattle.disturbance.specs.Trigger.{Before, Triggered}
-use Rattle.response.specs.declared.base.BaseWindow.{BaseWindow}
+use Rattle.disturbance.specs.Trigger.{Triggered}
 use Rattle.response.specs.declared.setup.Trigger.{Trigger}
 use Rattle.figure.specs.declared.point.Point.{Point}
-use Rattle.figure.specs.Asked.{TriggerTime}
-use Rattle.figure.specs.Laws.{AlikeBefore}
+use Rattle.figure.specs.declared.span.Span.{Span}
 use Rattle.figure.specs.Points.{turned, course}
-use Rattle.figure.specs.Steps.{base_points, used_points}
+use Rattle.figure.specs.Steps.{is_base}
+use Rattle.figure.specs.Asked.{Asked, Times, TriggerTime, targets_of, base_samples, first_span, second_span}
+use Rattle.figure.specs.Defects.{Missed, OneMissed, MissedByTargets, NeverTriggered, Beyond, Gapped, EitherWindow, defects}
 
--- alike, the other way round
-turn : (R : Option ℕ) (s t : Sample) → AlikeBefore R s t → AlikeBefore R t s
-turn R s t h = record { time = sym h.time; frequency = sym h.frequency; power = λ b. sym (h.power (subst (Before R) (sym h.time) b)) }
+-- two samples at the same time, of the same frequency
+pub record SameFrequency (s t : Sample) : Type 0 where
+  pub time : s.time ≡ t.time
+  pub frequency : s.frequency ≡ t.frequency
 
-pub turn_each : (R : Option ℕ) (xs ys : List Sample) → AllZip (AlikeBefore R) xs ys → AllZip (AlikeBefore R) ys xs
-turn_each R [] [] h = tt
-turn_each R [] (y ∷ ys) h = absurd h
-turn_each R (x ∷ xs) [] h = absurd h
-turn_each R (x ∷ xs) (y ∷ ys) h = (turn R x y h.0, turn_each R xs ys h.1)
+abbrev pub SameFrequencies : List Sample → List Sample → Type 0
+SameFrequencies xs ys = AllZip SameFrequency xs ys
+
+pub turn_each : (xs ys : List Sample) → SameFrequencies xs ys → SameFrequencies ys xs
+turn_each [] [] h = tt
+turn_each [] (y ∷ ys) h = absurd h
+turn_each (x ∷ xs) [] h = absurd h
+turn_each (x ∷ xs) (y ∷ ys) h = (record { time = sym h.0.time; frequency = sym h.0.frequency }, turn_each xs ys h.1)
 
 -- what holds of every time goes over
-pub all_times : (R : Option ℕ) (xs ys : List Sample) → AllZip (AlikeBefore R) xs ys → (P : ℕ → Type 0) → AllByRecursion (λ s. P s.time) xs → AllByRecursion (λ s. P s.time) ys
-all_times R [] [] h P p = tt
-all_times R [] (y ∷ ys) h P p = absurd h
-all_times R (x ∷ xs) [] h P p = absurd h
-all_times R (x ∷ xs) (y ∷ ys) h P p = (subst P h.0.time p.0, all_times R xs ys h.1 P p.1)
+all_times : (xs ys : List Sample) → SameFrequencies xs ys → (P : ℕ → Type 0) → AllByRecursion (λ s. P s.time) xs → AllByRecursion (λ s. P s.time) ys
+all_times [] [] h P p = tt
+all_times [] (y ∷ ys) h P p = absurd h
+all_times (x ∷ xs) [] h P p = absurd h
+all_times (x ∷ xs) (y ∷ ys) h P p = (subst P h.0.time p.0, all_times xs ys h.1 P p.1)
 
--- a line has no power in it
-same_line : (R : Option ℕ) (value : ℕ → ℤ) (a b x y : Sample) (t : ℕ) → AlikeBefore R a x → AlikeBefore R b y → line value a b t ≡ line value x y t
-same_line R value a b x y t h k = cc
+same_line : (value : ℕ → ℤ) (a b x y : Sample) (t : ℕ) → SameFrequency a x → SameFrequency b y → line value a b t ≡ line value x y t
+same_line value a b x y t h k = cc
 
-module _ (R : Option ℕ) (xs ys : List Sample) (h : AllZip (AlikeBefore R) xs ys) where
-  pub alike_at : (k : ℕ) → k < length xs → AlikeBefore R (at xs k) (at ys k)
-  alike_at k there = AllZip-get_or (AlikeBefore R) xs ys k _ _ h there
+-- ---- the times of points that a test of times keeps
+abbrev SameTimes : List Point → List Point → Type 0
+SameTimes ps qs = AllZip (λ p q. p.time ≡ q.time) ps qs
+
+kept_step : (b : Bool) (p q : Point) (ps qs : List Point) → p.time ≡ q.time → SameTimes ps qs → SameTimes (cond b (p ∷ ps) ps) (cond b (q ∷ qs) qs)
+kept_step true p q ps qs e h = (e, h)
+kept_step false p q ps qs e h = h
+
+kept_times : (d : Direction) (test : ℕ → Bool) (xs ys : List Sample) → SameFrequencies xs ys → SameTimes (filter (λ p. test p.time) (course d xs)) (filter (λ p. test p.time) (course d ys))
+kept_times d test [] [] h = tt
+kept_times d test [] (y ∷ ys) h = absurd h
+kept_times d test (x ∷ xs) [] h = absurd h
+kept_times d test (x ∷ xs) (y ∷ ys) h = rw (← ap test h.0.time) (kept_step (test x.time) (turned d x) (turned d y) _ _ h.0.time (kept_times d test xs ys h.1))
+
+still_none : (ps qs : List Point) → SameTimes ps qs → ps ≡ [] → qs ≡ []
+still_none [] [] h e = refl
+still_none [] (q ∷ qs) h e = absurd h
+still_none (p ∷ ps) qs h e = absurd (cc)
+
+one_missed_over : (gs : List Target) (ps qs : List Point) → SameTimes ps qs → OneMissed gs ps → OneMissed gs qs
+one_missed_over gs ps qs h (k, there, missed) = (k, omega (arith, length_all_zip _ ps qs h), λ p. subst (Missed gs) (AllZip-get_or _ ps qs k p p h there) (missed p))
+
+missed_over : (gs : List Target) (T : ℕ) (ps qs : List Point) → SameTimes ps qs → MissedByTargets gs T ps → MissedByTargets gs T qs
+missed_over gs T ps qs h (some, inl disturbed) = (some, inl disturbed)
+missed_over gs T ps qs h (some, inr one) = (some, inr (one_missed_over gs ps qs h one))
+
+-- ---- recovery, trigger time and windows
+module _ (xs ys : List Sample) (h : SameFrequencies xs ys) where
+  alike_at : (k : ℕ) → k < length xs → SameFrequency (at xs k) (at ys k)
+  alike_at k there = AllZip-get_or SameFrequency xs ys k _ _ h there
 
   -- what P says of the line goes over
   line_over : (P : Fraction → Type 0) (value : ℕ → ℤ) (t : ℕ) → LineAt (λ a b u. P (line value a b u)) xs t → LineAt (λ a b u. P (line value a b u)) ys t
@@ -55,56 +87,72 @@ module _ (R : Option ℕ) (xs ys : List Sample) (h : AllZip (AlikeBefore R) xs y
       record {
         place = l.place;
         later = l.later;
-        there = omega (arith, length_all_zip (AlikeBefore R) xs ys h);
+        there = omega (arith, length_all_zip SameFrequency xs ys h);
         after = omega arith;
         until = omega arith;
-        holds = subst P (same_line R value _ _ _ _ t earlier here) l.holds;
+        holds = subst P (same_line value _ _ _ _ t earlier here) l.holds;
       }
 
   recovered_over : (d : Disturbance) (t : ℕ) → Recovered xs d t → Recovered ys d t
   recovered_over d t r = (r.0, line_over (λ x. x ≺ whole (pos recovery_dip)) (dip d.direction) t r.1)
 
-  pub triggered_over : (d : Disturbance) (trigger t : ℕ) → Triggered xs d R trigger t → Triggered ys d R trigger t
-  triggered_over d trigger t r = (r.0, r.1, line_over (λ x. whole (pos trigger) ≼ x) (dip d.direction) t r.2)
+  triggered_over : (d : Disturbance) (R : Option ℕ) (trigger t : ℕ) → Triggered xs d R trigger t → Triggered ys d R trigger t
+  triggered_over d R trigger t r = (r.0, r.1, line_over (λ x. whole (pos trigger) ≼ x) (dip d.direction) t r.2)
 
--- ---- recovery and trigger time
+  never_over : (d : Disturbance) (R : Option ℕ) (g : Option Trigger) → NeverTriggered ys d R g → NeverTriggered xs d R g
+  never_over d R g n = record { dip = n.dip; has = n.has; never = λ t r. n.never t (triggered_over d R n.dip.dip t r) }
 
-pub same_recovery : (R : Option ℕ) (xs ys : List Sample) → AllZip (AlikeBefore R) xs ys → (d : Disturbance) → FirstOrNone (Recovered xs d) R → FirstOrNone (Recovered ys d) R
-same_recovery R xs ys h d first = answer_as (Recovered xs d) (Recovered ys d) R (recovered_over R xs ys h d) (recovered_over R ys xs (turn_each R xs ys h) d) first
+  beyond_over : (w : Span) → Beyond xs w → Beyond ys w
+  beyond_over w (some, inl early) = (some, inl (all_times xs ys h (λ t. w.start <ℤ pos t) early))
+  beyond_over w (some, inr late) = (some, inr (all_times xs ys h (λ t. pos t <ℤ w.end) late))
 
-pub same_trigger : (R : Option ℕ) (xs ys : List Sample) → AllZip (AlikeBefore R) xs ys → (d : Disturbance) (g : Option Trigger) (S : Option ℕ) → TriggerTime xs d R g S → TriggerTime ys d R g S
-same_trigger R xs ys h d None S none = none
-same_trigger R xs ys h d (Some g) S first = answer_as (Triggered xs d R g.dip) (Triggered ys d R g.dip) S (triggered_over R xs ys h d g.dip) (triggered_over R ys xs (turn_each R xs ys h) d g.dip) first
+  gapped_over : (widest : ℕ) (w : Span) → Gapped xs widest w → Gapped ys widest w
+  gapped_over widest w g =
+      let earlier = alike_at (g.place - 1) (omega arith) in
+      let here = alike_at g.place g.there in
+      record {
+        place = g.place;
+        later = g.later;
+        there = omega (arith, length_all_zip SameFrequency xs ys h);
+        shares = rw (← earlier.time, ← here.time) g.shares;
+        wide = omega arith;
+      }
 
--- ---- points before recovery, which have the same power
+same_trigger : (xs ys : List Sample) → SameFrequencies xs ys → (d : Disturbance) (R : Option ℕ) (g : Option Trigger) (S : Option ℕ) → TriggerTime xs d R g S → TriggerTime ys d R g S
+same_trigger xs ys h d R None S none = none
+same_trigger xs ys h d R (Some g) S first = answer_as (Triggered xs d R g.dip) (Triggered ys d R g.dip) S (triggered_over xs ys h d R g.dip) (triggered_over ys xs (turn_each xs ys h) d R g.dip) first
 
-same_turned : (R : Option ℕ) (d : Direction) (s t : Sample) → AlikeBefore R s t → Before R s.time → turned d s ≡ turned d t
-same_turned R d s t h before = let e = h.power before in cc
+-- one fault goes over as it is, and then the rest
+pub same_fault : {A W F G : Type 0} → (F → G) → (A × W) ⊎ ((A → ⊥) × F) → (A × W) ⊎ ((A → ⊥) × G)
+same_fault rest = fault_over (λ p. p) (λ p. p) rest
 
-same_if_kept : (b : Bool) (p q : Point) (ps qs : List Point) → (b ≡ true → p ≡ q) → ps ≡ qs → cond b (p ∷ ps) ps ≡ cond b (q ∷ qs) qs
-same_if_kept true p q ps qs same rest = let e = same refl in cc
-same_if_kept false p q ps qs same rest = rest
+-- ---- what is asked, of other samples
+module _ (xs : List Sample) (d : Disturbance) (a : Asked) (R S : Option ℕ) (ys : List Sample) (h : SameFrequencies xs ys) where
+  abbrev back : SameFrequencies ys xs
+  back = turn_each xs ys h
 
--- a test of times keeps the same points, if it keeps none from recovery on
-same_kept : (R : Option ℕ) (d : Direction) (test : ℕ → Bool) → ((t : ℕ) → test t ≡ true → Before R t) → (xs ys : List Sample) → AllZip (AlikeBefore R) xs ys → filter (λ p. test p.time) (course d xs) ≡ filter (λ p. test p.time) (course d ys)
-same_kept R d test before [] [] h = refl
-same_kept R d test before [] (y ∷ ys) h = absurd h
-same_kept R d test before (x ∷ xs) [] h = absurd h
-same_kept R d test before (x ∷ xs) (y ∷ ys) h =
-    let same : test x.time ≡ true → turned d x ≡ turned d y = λ e. same_turned R d x y h.0 (before x.time e) in
-    rw (← ap test h.0.time) (same_if_kept (test x.time) (turned d x) (turned d y) _ _ same (same_kept R d test before xs ys h.1))
+  pub same_times : Times xs d a R S → Times ys d a R S
+  same_times t = record {
+    recovers = answer_as (Recovered xs d) (Recovered ys d) R (recovered_over xs ys h d) (recovered_over ys xs back d) t.recovers;
+    triggers = same_trigger xs ys h d R a.trigger S t.triggers;
+  }
 
-pub same_used : (R : Option ℕ) (xs ys : List Sample) → AllZip (AlikeBefore R) xs ys → (d : Direction) → used_points R (course d xs) ≡ used_points R (course d ys)
-same_used None xs ys h d = same_kept None d (λ t. true) (λ t e. tt) xs ys h
-same_used (Some recovery) xs ys h d = same_kept (Some recovery) d (λ t. ltb t recovery) (λ t e. ltb-true t recovery e) xs ys h
+  -- what holds of either window goes over
+  either_over : {P Q : Span → Type 0} → ((w : Span) → P w → Q w) → EitherWindow xs d a R S P → EitherWindow xs d a R S Q
+  either_over over (z, is, inl p) = (z, is, inl (over (first_span d a R z) p))
+  either_over over (z, is, inr p) = (z, is, inr (over (second_span d a R z) p))
 
--- recovery is after the disturbance time, and no base point is
-not_yet : (R : Option ℕ) (xs : List Sample) (d : Disturbance) → FirstOrNone (Recovered xs d) R → (t : ℕ) → t ≤ d.time → Before R t
-not_yet None xs d first t le = tt
-not_yet (Some recovery) xs d first t le = omega (arith, first.holds.0)
-
-in_base : (T : ℕ) (base : BaseWindow) (t : ℕ) → (leb T (t + base.begin) && leb (t + base.end) T) ≡ true → t ≤ T
-in_base T base t e = omega (arith, leb-true (t + base.end) T (and_parts (leb T (t + base.begin)) (leb (t + base.end) T) e).1)
-
-pub same_base : (R : Option ℕ) (xs ys : List Sample) → AllZip (AlikeBefore R) xs ys → (d : Disturbance) (base : BaseWindow) → FirstOrNone (Recovered xs d) R → base_points d.time base (course d.direction xs) ≡ base_points d.time base (course d.direction ys)
-same_base R xs ys h d base first = same_kept R d.direction (λ t. leb d.time (t + base.begin) && leb (t + base.end) d.time) (λ t e. not_yet R xs d first t (in_base d.time base t e)) xs ys h
+  pub same_defects : (r : Option Refusal) → FirstFault (defects xs d a R S) r → FirstFault (defects ys d a R S) r
+  same_defects r =
+      let ps = base_samples xs d a in
+      let qs = base_samples ys d a in
+      let there = kept_times d.direction (is_base d.time a.settings.base) xs ys h in
+      let here = kept_times d.direction (is_base d.time a.settings.base) ys xs back in
+      let gap = a.row.widest_gap in
+      same_fault (same_fault (same_fault (
+      fault_over (still_none ps qs there) (still_none qs ps here) (
+      fault_over (missed_over (targets_of a) d.time ps qs there) (missed_over (targets_of a) d.time qs ps here) (
+      fault_over (never_over ys xs back d R a.trigger) (never_over xs ys h d R a.trigger) (
+      same_fault (
+      fault_over (either_over (beyond_over xs ys h)) (either_over (beyond_over ys xs back)) (
+      fault_over (either_over (gapped_over xs ys h gap)) (either_over (gapped_over ys xs back gap)) (λ p. p)))))))))

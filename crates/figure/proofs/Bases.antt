@@ -12,11 +12,10 @@ use Rattle.exact.proofs.Order.{reads_by}
 use Rattle.exact.proofs.Rounding.{half_up_value, half_up_whole}
 use Rattle.exact.proofs.Wholes.{half_up_of_whole}
 use Rattle.timeline.specs.declared.target.Target.{Target}
-use Rattle.disturbance.specs.declared.direction.Direction.{Direction}
 use Rattle.response.specs.declared.base.BaseWindow.{BaseWindow}
 use Rattle.figure.specs.declared.point.Point.{Point}
-use Rattle.figure.specs.Steps.{Rounding, to_half_up, unrounded, hundredths, is_base, base_push, base_in, Case}
-use Rattle.figure.specs.StepLaws.{InBase, counted, with_points, pushed_by, CountedLaws, MovesBy, number_with, aimed_at, OnRising, BaseLaws, IsMean, push_in, BaseIsMean}
+use Rattle.figure.specs.Steps.{Rounding, Case, to_half_up, unrounded, hundredths, power, is_base, trajectory, push_with, base_push, base}
+use Rattle.figure.specs.StepLaws.{InBase, counted, with_points, pushed_by, CountedLaws, MovesBy, number_with, OnRising, BaseLaws, IsMean, BaseIsMean}
 use Rattle.figure.proofs.Meanings.{base_is_signed}
 use Rattle.figure.proofs.Rising.{rises_kept}
 use Rattle.figure.proofs.Targets.{rounded_equal, on_rising}
@@ -70,11 +69,14 @@ module _ {X : Type 0} (test : X → Bool) where
         step true some = omega arith
         step false some = some
 
+abbrev counts : ℕ → BaseWindow → Point → Bool
+counts T base p = is_base T base p.time
+
 pub counted_laws : (T : ℕ) (base : BaseWindow) (ps : List Point) → CountedLaws T base ps
 counted_laws T base ps = record {
-  no_others = λ p h. let k = kept_in (is_base T base) ps p h in (k.0, (base_is_signed T base p).0 k.1);
-  all_inside = λ p h inside. keeps (is_base T base) ps p h ((base_is_signed T base p).1 inside);
-  each_once = rises_kept (is_base T base) ps;
+  no_others = λ p h. let k = kept_in (counts T base) ps p h in (k.0, (base_is_signed T base p.time).0 k.1);
+  all_inside = λ p h inside. keeps (counts T base) ps p h ((base_is_signed T base p.time).1 inside);
+  each_once = rises_kept (counts T base) ps;
 }
 
 -- ---- sums, one of whose terms is y more
@@ -116,15 +118,15 @@ module _ {X : Type 0} (f : X → Fraction) (v : Fraction) where
   mean_all xs some h = near_trans {n = 0} {m = 0} (near-÷ {n = 0} (length xs) (omega arith) (sum_all xs h)) (equal_near (mean_level v xs some))
 
 -- ---- the push of a base sample that is z watts more
-push_moved : (r : Rounding) (d : Direction) (gs : List Target) (T : ℕ) (p : Point) (z : ℤ) → Near 0 (base_push r d gs T (pushed_by z p)) (base_push r d gs T p ⊕ hundredths z)
-push_moved r d [] T p z = hundredths_sum p.push z
-push_moved r d (g ∷ gs) T p z = near_trans {n = 0} {m = 0} (near-⊕ {n = 0} {m = 0} (hundredths_sum p.push z) near_refl) (swap (hundredths p.push) _ (hundredths z))
+push_moved : (r : Rounding) (c : Case) (gs : List Target) (p : Point) (z : ℤ) → Near 0 (push_with r c gs (pushed_by z p)) (push_with r c gs p ⊕ hundredths z)
+push_moved r c [] p z = hundredths_sum p.push z
+push_moved r c (g ∷ gs) p z = near_trans {n = 0} {m = 0} (near-⊕ {n = 0} {m = 0} (hundredths_sum p.push z) near_refl) (swap (power p) _ (hundredths z))
 
-not_in : (T : ℕ) (base : BaseWindow) (p : Point) → (InBase T base p → ⊥) → is_base T base p ≡ false
-not_in T base p out = by (is_base T base p) refl
+not_in : (T : ℕ) (base : BaseWindow) (p : Point) → (InBase T base p → ⊥) → counts T base p ≡ false
+not_in T base p out = by (counts T base p) refl
   where
-    by : (b : Bool) → is_base T base p ≡ b → b ≡ false
-    by true e = absurd (out ((base_is_signed T base p).0 e))
+    by : (b : Bool) → counts T base p ≡ b → b ≡ false
+    by true e = absurd (out ((base_is_signed T base p.time).0 e))
     by false e = refl
 
 -- ---- a rounding that moves with whole numbers and leaves what it has rounded
@@ -137,36 +139,36 @@ record Steady (r : Rounding) : Type 0 where
 module _ (r : Rounding) (steady : Steady r) where
   same_shares : (c : Case) (earlier later : List Point) (p : Point) (z : ℤ) → InBase c.disturbance c.base p → MovesBy r c earlier p (pushed_by (z *ℤ pos (number_with c earlier p later)) p) later (hundredths z)
   same_shares c earlier later p z inside =
-      let test = is_base c.disturbance c.base in
-      let f = base_push r c.direction c.targets c.disturbance in
+      let test = counts c.disturbance c.base in
+      let f = base_push r c in
       let n = number_with c earlier p later in
-      let passes = (base_is_signed c.disturbance c.base p).1 inside in
+      let passes = (base_is_signed c.disturbance c.base p.time).1 inside in
       let q = pushed_by (z *ℤ pos n) p in
       let some : 0 < n = some_in test p q passes earlier later in
-      let sum = sum_moved f test p q (hundredths (z *ℤ pos n)) passes passes (push_moved r c.direction c.targets c.disturbance p (z *ℤ pos n)) earlier later in
+      let sum = sum_moved f test p q (hundredths (z *ℤ pos n)) passes passes (push_moved r c c.targets p (z *ℤ pos n)) earlier later in
       let counts : length (filter test (earlier ++ q ∷ later)) ≡ n = both_in test p q passes passes earlier later in
       let mean_moved : Near 0 (sum_of f (filter test (earlier ++ q ∷ later)) ÷ n) (sum_of f (filter test (earlier ++ p ∷ later)) ÷ n ⊕ hundredths z) =
       near_trans {n = 0} {m = 0} (near-÷ {n = 0} n (omega arith) sum) (share _ _ (hundredths z) n some (hundredths_times z n)) in
       near_equal (steady.moves _ _ (z *ℤ pos 100) (subst (λ (m : ℕ). Near 0 (sum_of f (filter test (earlier ++ q ∷ later)) ÷ m) (sum_of f (filter test (earlier ++ p ∷ later)) ÷ n ⊕ hundredths z)) (sym counts) mean_moved))
 
-  others_out : (c : Case) (earlier later : List Point) (p : Point) (z : ℤ) → (InBase c.disturbance c.base p → ⊥) → base_in r (with_points c (earlier ++ pushed_by z p ∷ later)) ≡ base_in r (with_points c (earlier ++ p ∷ later))
+  others_out : (c : Case) (earlier later : List Point) (p : Point) (z : ℤ) → (InBase c.disturbance c.base p → ⊥) → base r (with_points c (earlier ++ pushed_by z p ∷ later)) ≡ base r (with_points c (earlier ++ p ∷ later))
   others_out c earlier later p z out =
       let fails = not_in c.disturbance c.base p out in
-      ap (λ (ks : List Point). r (mean (base_push r c.direction c.targets c.disturbance) ks)) (both_out (is_base c.disturbance c.base) p (pushed_by z p) fails fails earlier later)
+      ap (λ (ks : List Point). r (mean (base_push r c) ks)) (both_out (counts c.disturbance c.base) p (pushed_by z p) fails fails earlier later)
 
-  level_push : (d : Direction) (gs : List Target) (T : ℕ) (p : Point) (w : ℤ) → gs ≡ [] → p.push ≡ w → Near 0 (base_push r d gs T p) (hundredths w)
-  level_push d [] T p w none e = rw e near_refl
-  level_push d (g ∷ gs) T p w none e = cc
+  level_push : (c : Case) (gs : List Target) (p : Point) (w : ℤ) → gs ≡ [] → p.push ≡ w → Near 0 (push_with r c gs p) (hundredths w)
+  level_push c [] p w none e = rw e near_refl
+  level_push c (g ∷ gs) p w none e = cc
 
-  level : (c : Case) (w : ℤ) → c.targets ≡ [] → 0 < length (counted c) → All (λ p. p.push ≡ w) (counted c) → Near 0 (base_in r c) (hundredths w)
+  level : (c : Case) (w : ℤ) → c.targets ≡ [] → 0 < length (counted c) → All (λ p. p.push ≡ w) (counted c) → Near 0 (base r c) (hundredths w)
   level c w none some each =
-      let all = mean_all (base_push r c.direction c.targets c.disturbance) (hundredths w) (counted c) some (λ k d less. level_push c.direction c.targets c.disturbance _ w none (each k d less)) in
+      let all = mean_all (base_push r c) (hundredths w) (counted c) some (λ k d less. level_push c c.targets _ w none (each k d less)) in
       near_trans {n = 0} {m = 0} (steady.same _ _ all) (steady.wholes (w *ℤ pos 100))
 
-  follows_targets : (c : Case) → 0 < length c.targets → 0 < length (counted c) → All (OnRising r c) (counted c) → Near 0 (base_in r c) (aimed_at r c c.disturbance)
+  follows_targets : (c : Case) → 0 < length c.targets → 0 < length (counted c) → All (OnRising r c) (counted c) → Near 0 (base r c) (trajectory r c c.disturbance)
   follows_targets c with_targets some each =
-      let all = mean_all (base_push r c.direction c.targets c.disturbance) (aimed_at r c c.disturbance) (counted c) some
-      (λ k d less. let h = each k d less in on_rising r c.direction c.targets c.disturbance _ with_targets h.0 h.1) in
+      let all = mean_all (base_push r c) (trajectory r c c.disturbance) (counted c) some
+      (λ k d less. let h = each k d less in on_rising r c _ with_targets h.0 h.1) in
       near_trans {n = 0} {m = 0} (steady.same _ _ all) (steady.again _)
 
   base_laws_of : BaseLaws r
@@ -175,7 +177,7 @@ module _ (r : Rounding) (steady : Steady r) where
     others_out = others_out;
     level = λ c w none some each. near_equal (level c w none some each);
     follows_targets = λ c with_targets some each. near_equal (follows_targets c with_targets some each);
-    not_shifted = λ a recovery recovery' shift shift'. refl;
+    not_shifted = λ xs d a recovery recovery' shift shift'. refl;
   }
 
 -- ---- half-up and none
@@ -212,6 +214,6 @@ is_mean f ps x some h =
 
 pub base_is_mean : (c : Case) → BaseIsMean c
 base_is_mean c = record {
-  exact = λ some. near_equal (mean_is (push_in unrounded c) (counted c) some);
-  rounded_once = λ x some h. rounded_equal x _ (is_mean (push_in to_half_up c) (counted c) x some h);
+  exact = λ some. near_equal (mean_is (base_push unrounded c) (counted c) some);
+  rounded_once = λ x some h. rounded_equal x _ (is_mean (base_push to_half_up c) (counted c) x some h);
 }

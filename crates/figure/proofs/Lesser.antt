@@ -6,7 +6,7 @@ use Rattle.exact.proofs.Near.{near_refl, near_equal}
 use Rattle.exact.proofs.Order.{≼-or-≺}
 use Rattle.exact.proofs.Lines.{≺-out}
 use Rattle.response.specs.declared.group.Window.{Window}
-use Rattle.figure.specs.Steps.{Rounding, Case, value_in, delivery}
+use Rattle.figure.specs.Steps.{Rounding, Case, value, delivery}
 use Rattle.figure.specs.StepLaws.{LesserOfBoth}
 
 same : {x y : Fraction} → x ≡ y → x ≼ y
@@ -26,13 +26,13 @@ lesser_is x y = by (at_most x y) refl
         less h = ≼-in reads_self reads_self (omega (arith, ≺-out reads_self reads_self h))
 
 module _ (r : Rounding) (c : Case) where
-  both : (w : Window) → c.second ≡ Some w → (delivery r c ≼ value_in r c c.first) × (delivery r c ≼ value_in r c w) × ((delivery r c ≡ value_in r c c.first) ⊎ (delivery r c ≡ value_in r c w))
-  both w e = rw e (lesser_is (value_in r c c.first) (value_in r c w))
+  both : (w : Window) → c.second ≡ Some w → (delivery r c ≼ value r c c.first) × (delivery r c ≼ value r c w) × ((delivery r c ≡ value r c c.first) ⊎ (delivery r c ≡ value r c w))
+  both w e = rw e (lesser_is (value r c c.first) (value r c w))
 
-  alone : c.second ≡ None → delivery r c ≡ value_in r c c.first
+  alone : c.second ≡ None → delivery r c ≡ value r c c.first
   alone e = rw e refl
 
-  at_most_first : (second : Option Window) → c.second ≡ second → delivery r c ≼ value_in r c c.first
+  at_most_first : (second : Option Window) → c.second ≡ second → delivery r c ≼ value r c c.first
   at_most_first None e = same (alone e)
   at_most_first (Some w) e = (both w e).0
 

@@ -1,5 +1,5 @@
 -- No report and no refusal changes where a record, its disturbance, the targets and the side are mirrored.
-use Rattle.std.proofs.Common.{◌≡◌, ℕ, zero, suc, ◌+◌, ◌-◌, ◌<◌, Bool, true, false, cond, ◌||◌, ◌⊎◌, ◌↔◌, List, [], ◌∷◌, length, get_or, take, ℤ, pos, ◌<ℤ◌, neg_ℤ, Some, None, Option, Result, sym, refl, ap, ◌∙◌, subst, inl, inr, arith}
+use Rattle.std.proofs.Common.{◌≡◌, ℕ, zero, suc, ◌+◌, ◌-◌, ◌<◌, Bool, true, false, cond, ◌||◌, ◌⊎◌, ◌↔◌, List, [], ◌∷◌, length, get_or, take, ℤ, pos, ◌<ℤ◌, neg_ℤ, Some, None, Option, option_map, Result, sym, refl, ap, ◌∙◌, subst, inl, inr, arith}
 use Rattle.std.specs.Prelude.{int_lt, nat_lt}
 use Rattle.std.specs.List.{AllZip, AllByRecursion}
 use Rattle.std.proofs.Math.Bool.{or_comm}
@@ -9,13 +9,12 @@ use Rattle.std.proofs.lemmas.Int.{ints}
 use Rattle.std.proofs.lemmas.List.Elements.{AllZip-get_or, length_all_zip}
 use Rattle.exact.specs.First.{FirstOrNone}
 use Rattle.exact.specs.Fractions.{Fraction, whole, ◌⊕◌, ◌⊖◌, greater}
-use Rattle.exact.specs.Lines.{line_from}
+use Rattle.exact.specs.Lines.{line_from, line}
 use Rattle.exact.specs.Averages.{mean}
 use Rattle.exact.proofs.First.{answer_as}
 use Rattle.recording.specs.Samples.{latest, greatest_power}
 use Rattle.recording.specs.declared.refusal.Field.{Field}
 use Rattle.recording.specs.declared.refusal.Field.TheVariants.{Time, Power}
-use Rattle.recording.specs.declared.refusal.Reason.{Reason}
 use Rattle.recording.specs.declared.refusal.Refusal.{Refusal}
 use Rattle.recording.specs.declared.sample.Sample.{Sample}
 use Rattle.timeline.specs.declared.target.Target.{Target}
@@ -36,22 +35,21 @@ use Rattle.response.specs.declared.service.Side.{Side}
 use Rattle.response.specs.declared.service.Side.TheVariants.{Raise, Lower}
 use Rattle.response.specs.declared.service.Service.{Service}
 use Rattle.response.specs.declared.service.Service.TheVariants.{R6, R60, R5, L6, L60, L5}
-use Rattle.response.specs.declared.settings.Settings.{Settings}
 use Rattle.response.specs.declared.setup.Trigger.{Trigger}
 use Rattle.response.specs.Groups.{row_of}
 use Rattle.response.specs.Services.{direction_of, listed}
 use Rattle.figure.specs.declared.point.Point.{Point}
-use Rattle.figure.specs.declared.report.Claim.{Claim}
 use Rattle.figure.specs.declared.report.Report.{Report}
 use Rattle.figure.specs.declared.span.Span.{Span}
 use Rattle.figure.specs.Points.{turned as point_of, course}
-use Rattle.figure.specs.Steps.{Rounding, Weights, unrounded, hundredths, to_half_up, base_points, trajectory, rise, base_push, base_in, compensated, used_points, value_of, value_in, or_none, lesser_of, delivery}
-use Rattle.figure.specs.Asked.{Asked, asked_by, asked_for, TriggerTime, Times, points_of, targets_of, shift_in, first_span, second_span, case_of}
-use Rattle.figure.specs.Defects.{Missed, OneMissed, MissedByTargets, NeverTriggered, Beyond, Gapped, AtShift, defects}
+use Rattle.figure.specs.Steps.{Rounding, Case, unrounded, hundredths, to_half_up, power, base_points, used_points, used, trajectory, rise, push_with, base_push, base, value, lesser_of, delivery}
+use Rattle.figure.proofs.Curves.{averaged, from_base, value_is}
+use Rattle.figure.specs.Asked.{Asked, for_service, TriggerTime, Times, points_of, targets_of, base_samples, first_span, second_span, case_of}
+use Rattle.figure.specs.Defects.{Missed, OneMissed, MissedByTargets, NeverTriggered, Beyond, Gapped, EitherWindow, defects}
 use Rattle.figure.specs.Exactness.{ExactDelivery}
 use Rattle.figure.specs.Reports.{Reports, AnswerIs, Delivers}
-use Rattle.figure.specs.TurningLaws.{mirrored_targets, other_side, other_service, other_claim, mirrored_asked, ClaimsTurn, TurningLaws}
-use Rattle.figure.proofs.AfterRecovery.{same_fault}
+use Rattle.figure.specs.TurningLaws.{mirrored_targets, other_side, other_service, mirrored_asked, ServicesAnswer, TurningLaws}
+use Rattle.figure.proofs.Alike.{same_fault}
 
 -- ---- points
 same_point : (d : Direction) (s t : Sample) → Images s t → point_of d s ≡ point_of (turned d) t
@@ -109,22 +107,33 @@ same_from d (g ∷ gs) (h ∷ hs) e t s v w p q u =
     let rest = same_from d gs hs e.1 g.time h.time (hundredths (push d g.power)) (hundredths (push (turned d) h.power)) e.0.time value u in
     cc (p, q, e.0.time, value, rest)
 
-same_trajectory : (r : Rounding) (d : Direction) (gs hs : List Target) → AllZip TargetImages gs hs → (t : ℕ) → trajectory r d gs t ≡ trajectory r (turned d) hs t
-same_trajectory r d [] [] e t = refl
-same_trajectory r d [] (h ∷ hs) e t = absurd e
-same_trajectory r d (g ∷ gs) [] e t = absurd e
-same_trajectory r d (g ∷ gs) (h ∷ hs) e t = ap r (same_from d gs hs e.1 g.time h.time _ _ e.0.time (ap hundredths (target_push d g h e.0)) t)
+same_line : (d : Direction) (gs hs : List Target) → AllZip TargetImages gs hs → (t : ℕ) → line (λ g. g.time) (λ g. hundredths (push d g.power)) gs t ≡ line (λ g. g.time) (λ g. hundredths (push (turned d) g.power)) hs t
+same_line d [] [] e t = refl
+same_line d [] (h ∷ hs) e t = absurd e
+same_line d (g ∷ gs) [] e t = absurd e
+same_line d (g ∷ gs) (h ∷ hs) e t = same_from d gs hs e.1 g.time h.time _ _ e.0.time (ap hundredths (target_push d g h e.0)) t
 
-same_rise : (r : Rounding) (d : Direction) (gs hs : List Target) → AllZip TargetImages gs hs → (T t : ℕ) → rise r d gs T t ≡ rise r (turned d) hs T t
-same_rise r d gs hs e T t =
-    ap (λ x. greater (whole (pos 0)) (x ⊖ trajectory r d gs t)) (same_trajectory r d gs hs e T)
-    ∙ ap (λ x. greater (whole (pos 0)) (trajectory r (turned d) hs T ⊖ x)) (same_trajectory r d gs hs e t)
+-- the case with the targets hs, in the other direction
+abbrev turned_case : Case → List Target → Case
+turned_case c hs = record c { direction = turned c.direction; targets = hs }
 
-same_base_push : (r : Rounding) (d : Direction) (gs hs : List Target) → AllZip TargetImages gs hs → (T : ℕ) (p : Point) → base_push r d gs T p ≡ base_push r (turned d) hs T p
-same_base_push r d [] [] e T p = refl
-same_base_push r d [] (h ∷ hs) e T p = absurd e
-same_base_push r d (g ∷ gs) [] e T p = absurd e
-same_base_push r d (g ∷ gs) (h ∷ hs) e T p = ap (λ x. hundredths p.push ⊕ x) (same_rise r d (g ∷ gs) (h ∷ hs) e T p.time)
+module _ (r : Rounding) (c : Case) (hs : List Target) (e : AllZip TargetImages c.targets hs) where
+  same_trajectory : (t : ℕ) → trajectory r c t ≡ trajectory r (turned_case c hs) t
+  same_trajectory t = ap r (same_line c.direction c.targets hs e t)
+
+  same_rise : (t : ℕ) → rise r c t ≡ rise r (turned_case c hs) t
+  same_rise t =
+      ap (λ x. greater (whole (pos 0)) (x ⊖ trajectory r c t)) (same_trajectory c.disturbance)
+      ∙ ap (λ x. greater (whole (pos 0)) (trajectory r (turned_case c hs) c.disturbance ⊖ x)) (same_trajectory t)
+
+  same_push : (gs js : List Target) → AllZip TargetImages gs js → (p : Point) → push_with r c gs p ≡ push_with r (turned_case c hs) js p
+  same_push [] [] f p = refl
+  same_push [] (j ∷ js) f p = absurd f
+  same_push (g ∷ gs) [] f p = absurd f
+  same_push (g ∷ gs) (j ∷ js) f p = ap (λ x. power p ⊕ x) (same_rise p.time)
+
+  same_base_push : (p : Point) → base_push r c p ≡ base_push r (turned_case c hs) p
+  same_base_push p = same_push c.targets hs e p
 
 -- ---- targets that are sound: the limits of a power reach as far either way
 less_turned : (m p : ℤ) → int_lt (neg_ℤ p) (neg_ℤ m) ≡ int_lt m p
@@ -189,7 +198,7 @@ module _ (gs hs : List Target) (e : AllZip TargetImages gs hs) where
   missed_over t (inr after) = inr (target_times gs hs e (λ u. u < t) after)
 
   one_missed_over : (base : List Point) → OneMissed gs base → OneMissed hs base
-  one_missed_over base (k, there, missed) = (k, there, λ p. missed_over _ (missed p))
+  one_missed_over ps (k, there, missed) = (k, there, λ p. missed_over _ (missed p))
 
   by_targets_over : (T : ℕ) (base : List Point) → MissedByTargets gs T base → MissedByTargets hs T base
   by_targets_over T base (some, missed) = (omega (arith, length_all_zip TargetImages gs hs e, some), elim missed [ inl m ↦ inl (missed_over T m) | inr m ↦ inr (one_missed_over base m) ])
@@ -217,14 +226,13 @@ services_turn L6 = (refl, refl)
 services_turn L60 = (refl, refl)
 services_turn L5 = (refl, refl)
 
--- what is asked for a claim, mirrored, is asked for the other side's claim
-asked_for_turns : (xs : List Sample) (d : Disturbance) (settings : Settings) (trigger : Option Trigger) (weight : Weights) (table : List Target) (count : ℕ) (claim : Claim)
-    → mirrored_asked (asked_for xs d settings trigger weight table count claim) ≡ asked_for (mirrored_record xs) (opposite d) settings trigger weight (mirrored_targets table) count (other_claim claim)
-asked_for_turns xs d settings trigger weight table count claim =
-    let e = services_turn claim.service in
+-- what is asked with a service, mirrored, is the mirrored asked with the other side's service
+for_service_turns : (s : Service) (a : Asked) → mirrored_asked (for_service s a) ≡ for_service (other_service s) (mirrored_asked a)
+for_service_turns s a =
+    let e = services_turn s in
     let side = sym e.0 in
     let row = ap row_of (sym e.1) in
-    λ i. asked_by (mirrored_record xs) (opposite d) settings trigger weight (mirrored_targets table) count (side i) (row i) claim.enabled
+    λ i. record a { table = mirrored_targets a.table; side = side i; row = row i }
 
 -- ---- records
 sample_times : (xs ys : List Sample) → AllZip Images xs ys → (P : ℕ → Type 0) → AllByRecursion (λ s. P s.time) xs → AllByRecursion (λ s. P s.time) ys
@@ -272,48 +280,38 @@ module _ (xs ys : List Sample) (h : AllZip Images xs ys) where
         wide = omega (arith, earlier.time, here.time, g.wide);
       }
 
--- ---- what is asked, with another record, the other direction, another table and the other side
-abbrev image : Asked → List Sample → List Target → Asked
-image a ys hs = record a { samples = ys; disturbance = opposite a.disturbance; table = hs; side = other_side a.side }
+-- ---- what is asked, with another table and the other side, of another record with the other direction
+abbrev image : Asked → List Target → Asked
+image a hs = record a { table = hs; side = other_side a.side }
 
--- the points of what is asked that count for its base
-abbrev base_samples : Asked → List Point
-base_samples a = base_points a.disturbance.time a.settings.base (points_of a)
+module _ (xs : List Sample) (d : Disturbance) (a : Asked) (ys : List Sample) (hs : List Target) (h : AllZip Images xs ys) (e : AllZip TargetImages a.table hs) where
+  same_points : points_of xs d ≡ points_of ys (opposite d)
+  same_points = same_course d.direction xs ys h
 
--- the values of windows over a rounding, by the base and the points
-abbrev values_from : Rounding → Asked → Option ℕ → Fraction → List Point → Window → Fraction
-values_from r a R base points = value_of r (compensated r a.weight a.disturbance.time base) (used_points R points)
-
-module _ (a : Asked) (ys : List Sample) (hs : List Target) (h : AllZip Images a.samples ys) (e : AllZip TargetImages a.table hs) where
-  same_points : points_of a ≡ points_of (image a ys hs)
-  same_points = same_course a.disturbance.direction a.samples ys h
-
-  taken : AllZip TargetImages (targets_of a) (targets_of (image a ys hs))
+  taken : AllZip TargetImages (targets_of a) (targets_of (image a hs))
   taken = images_taken a.count a.table hs e
 
-  same_base_samples : base_samples a ≡ base_samples (image a ys hs)
-  same_base_samples = ap (base_points a.disturbance.time a.settings.base) same_points
+  same_base_samples : base_samples xs d a ≡ base_samples ys (opposite d) (image a hs)
+  same_base_samples = ap (base_points d.time a.settings.base) same_points
 
-  same_times : (R S : Option ℕ) → Times a R S → Times (image a ys hs) R S
-  same_times R S t = record { recovers = same_recovery a.samples ys h a.disturbance R t.recovers; triggers = same_trigger a.samples ys h a.disturbance R a.trigger S t.triggers }
+  same_times : (R S : Option ℕ) → Times xs d a R S → Times ys (opposite d) (image a hs) R S
+  same_times R S t = record { recovers = same_recovery xs ys h d R t.recovers; triggers = same_trigger xs ys h d R a.trigger S t.triggers }
 
   -- ---- defects
-  missed_to : MissedByTargets (targets_of a) a.disturbance.time (base_samples a) → MissedByTargets (targets_of (image a ys hs)) a.disturbance.time (base_samples (image a ys hs))
-  missed_to m = subst (MissedByTargets (targets_of (image a ys hs)) a.disturbance.time) same_base_samples (by_targets_over (targets_of a) (targets_of (image a ys hs)) taken a.disturbance.time (base_samples a) m)
+  missed_to : MissedByTargets (targets_of a) d.time (base_samples xs d a) → MissedByTargets (targets_of (image a hs)) d.time (base_samples ys (opposite d) (image a hs))
+  missed_to m = subst (MissedByTargets (targets_of (image a hs)) d.time) same_base_samples (by_targets_over (targets_of a) (targets_of (image a hs)) taken d.time (base_samples xs d a) m)
 
-  missed_from : MissedByTargets (targets_of (image a ys hs)) a.disturbance.time (base_samples (image a ys hs)) → MissedByTargets (targets_of a) a.disturbance.time (base_samples a)
+  missed_from : MissedByTargets (targets_of (image a hs)) d.time (base_samples ys (opposite d) (image a hs)) → MissedByTargets (targets_of a) d.time (base_samples xs d a)
   missed_from m =
-      let n = subst (MissedByTargets (targets_of (image a ys hs)) a.disturbance.time) (sym same_base_samples) m in
-      by_targets_over (targets_of (image a ys hs)) (targets_of a) (turn_targets (targets_of a) (targets_of (image a ys hs)) taken) a.disturbance.time (base_samples a) n
+      let n = subst (MissedByTargets (targets_of (image a hs)) d.time) (sym same_base_samples) m in
+      by_targets_over (targets_of (image a hs)) (targets_of a) (turn_targets (targets_of a) (targets_of (image a hs)) taken) d.time (base_samples xs d a) n
 
   -- what holds of either window goes over
-  either_over : {P Q : Span → Type 0} (R S : Option ℕ) → ((w : Span) → P w → Q w) → AtShift (shift_in a S) (λ z. P (first_span a R z) ⊎ P (second_span a R z)) → AtShift (shift_in a S) (λ z. Q (first_span a R z) ⊎ Q (second_span a R z))
-  either_over R S over (z, is, either) = (z, is, elim either [ inl p ↦ inl (over (first_span a R z) p) | inr p ↦ inr (over (second_span a R z) p) ])
+  either_over : {P Q : Span → Type 0} (R S : Option ℕ) → ((w : Span) → P w → Q w) → EitherWindow xs d a R S P → EitherWindow xs d a R S Q
+  either_over R S over (z, is, either) = (z, is, elim either [ inl p ↦ inl (over (first_span d a R z) p) | inr p ↦ inr (over (second_span d a R z) p) ])
 
-  same_defects : (R S : Option ℕ) (why : Option Reason) → FirstFault (defects a R S) why → FirstFault (defects (image a ys hs) R S) why
-  same_defects R S why =
-      let xs = a.samples in
-      let d = a.disturbance in
+  same_defects : (R S : Option ℕ) (defect : Option Refusal) → FirstFault (defects xs d a R S) defect → FirstFault (defects ys (opposite d) (image a hs) R S) defect
+  same_defects R S defect =
       let back = turn_each xs ys h in
       let home = turn_targets a.table hs e in
       let f = same_base_samples in
@@ -329,97 +327,109 @@ module _ (a : Asked) (ys : List Sample) (hs : List Target) (h : AllZip Images a.
       fault_over (either_over R S (gapped_over xs ys h gap)) (either_over R S (gapped_over ys xs back gap)) (λ p. p)))))))))
 
   -- ---- values
-  same_base : (r : Rounding) (R : Option ℕ) (z : ℤ) → base_in r (case_of a R z) ≡ base_in r (case_of (image a ys hs) R z)
-  same_base r R z =
-      let d = a.disturbance.direction in
-      let raised : base_push r d (targets_of a) a.disturbance.time ≡ base_push r (turned d) (targets_of (image a ys hs)) a.disturbance.time =
-      fun_ext (same_base_push r d (targets_of a) (targets_of (image a ys hs)) taken a.disturbance.time) in
-      ap (λ f. r (mean f (base_samples a))) raised
-      ∙ ap (λ ps. r (mean (base_push r (turned d) (targets_of (image a ys hs)) a.disturbance.time) ps)) same_base_samples
+  module _ (r : Rounding) (R : Option ℕ) (z : ℤ) where
+    abbrev one : Case
+    one = case_of xs d a R z
 
-  same_values : (r : Rounding) (R : Option ℕ) (z : ℤ) → value_in r (case_of a R z) ≡ value_in r (case_of (image a ys hs) R z)
-  same_values r R z = ap (λ base. values_from r a R base (points_of a)) (same_base r R z) ∙ ap (values_from r a R (base_in r (case_of (image a ys hs) R z))) same_points
+    abbrev other : Case
+    other = case_of ys (opposite d) (image a hs) R z
 
-  same_delivery : (r : Rounding) (R : Option ℕ) (z : ℤ) → delivery r (case_of a R z) ≡ delivery r (case_of (image a ys hs) R z)
+    same_base : base r one ≡ base r other
+    same_base = ap (λ f. r (mean f (base_samples xs d a))) (fun_ext (same_base_push r one (targets_of (image a hs)) taken)) ∙ ap (λ ps. r (mean (base_push r other) ps)) same_base_samples
+
+    same_value : (w : Window) → value r one w ≡ value r other w
+    same_value w = value_is r one w ∙ ap (λ b. averaged r (from_base r one b) (used one) w) same_base ∙ ap (λ ps. averaged r (from_base r one (base r other)) (used_points R ps) w) same_points ∙ sym (value_is r other w)
+
+    same_values : value r one ≡ value r other
+    same_values = fun_ext same_value
+
+  same_delivery : (r : Rounding) (R : Option ℕ) (z : ℤ) → delivery r (case_of xs d a R z) ≡ delivery r (case_of ys (opposite d) (image a hs) R z)
   same_delivery r R z =
-      let c = case_of a R z in
-      ap (λ value. lesser_of (value c.first) (or_none value c.second)) (same_values r R z)
+      let c = case_of xs d a R z in
+      ap (λ value. lesser_of (value c.first) (option_map value c.second)) (same_values r R z)
 
   -- ---- answers
-  same_reports : (R : Option ℕ) (z : ℤ) (report : Report) → Reports a R z report → Reports (image a ys hs) R z report
+  same_reports : (R : Option ℕ) (z : ℤ) (report : Report) → Reports xs d a R z report → Reports ys (opposite d) (image a hs) R z report
   same_reports R z report q =
       let f = same_values to_half_up R z in
-      let c = case_of a R z in
+      let c = case_of xs d a R z in
       record {
         time = q.time;
         recovery = q.recovery;
         first = q.first ∙ ap (λ value. value c.first) f;
-        second = q.second ∙ ap (λ value. or_none value c.second) f;
+        second = q.second ∙ ap (λ value. option_map value c.second) f;
         watts = q.watts ∙ same_delivery to_half_up R z;
         verdict = q.verdict;
       }
 
-  same_answer : (R S : Option ℕ) (why : Option Reason) (r : Result Report Refusal) → AnswerIs a R S why r → AnswerIs (image a ys hs) R S why r
-  same_answer R S (Some why) r is = is
+  same_answer : (R S : Option ℕ) (defect : Option Refusal) (r : Result Report Refusal) → AnswerIs xs d a R S defect r → AnswerIs ys (opposite d) (image a hs) R S defect r
+  same_answer R S (Some f) r is = is
   same_answer R S None r (z, report, shifted, is, reports) = (z, report, shifted, is, same_reports R z report reports)
 
-  delivers_over : (r : Result Report Refusal) → Delivers a r → Delivers (image a ys hs) r
-  delivers_over r d = record {
-    recovery = d.recovery;
-    trigger_time = d.trigger_time;
-    times = same_times d.recovery d.trigger_time d.times;
-    why = d.why;
-    first = same_defects d.recovery d.trigger_time d.why d.first;
-    answer = same_answer d.recovery d.trigger_time d.why r d.answer;
+  delivers_over : (r : Result Report Refusal) → Delivers xs d a r → Delivers ys (opposite d) (image a hs) r
+  delivers_over r given = record {
+    recovery = given.recovery;
+    trigger_time = given.trigger_time;
+    times = same_times given.recovery given.trigger_time given.times;
+    defect = given.defect;
+    first = same_defects given.recovery given.trigger_time given.defect given.first;
+    answer = same_answer given.recovery given.trigger_time given.defect r given.answer;
   }
 
-  exact_over : (x : Fraction) → ExactDelivery a x → ExactDelivery (image a ys hs) x
-  exact_over x d = record {
-    recovery = d.recovery;
-    trigger_time = d.trigger_time;
-    times = same_times d.recovery d.trigger_time d.times;
-    shift = d.shift;
-    shifted = d.shifted;
-    is = d.is ∙ same_delivery unrounded d.recovery d.shift;
+  exact_over : (x : Fraction) → ExactDelivery xs d a x → ExactDelivery ys (opposite d) (image a hs) x
+  exact_over x given = record {
+    recovery = given.recovery;
+    trigger_time = given.trigger_time;
+    times = same_times given.recovery given.trigger_time given.times;
+    shift = given.shift;
+    shifted = given.shifted;
+    is = given.is ∙ same_delivery unrounded given.recovery given.shift;
   }
 
 -- ---- the mirror image, and what is asked again of it
-module _ (a : Asked) (m : Mirrorable a.samples) where
-  images : AllZip Images a.samples (mirrored_record a.samples)
-  images = images_record a.samples m
+module _ (xs : List Sample) (d : Disturbance) (a : Asked) (m : Mirrorable xs) where
+  images : AllZip Images xs (mirrored_record xs)
+  images = images_record xs m
 
-  back : AllZip Images (mirrored_record a.samples) a.samples
-  back = turn_each a.samples (mirrored_record a.samples) images
+  back : AllZip Images (mirrored_record xs) xs
+  back = turn_each xs (mirrored_record xs) images
 
   home : AllZip TargetImages (mirrored_targets a.table) a.table
   home = turn_targets a.table (mirrored_targets a.table) (images_targets a.table)
 
-  again : (P : Asked → Type 0) → P (image (mirrored_asked a) a.samples a.table) → P a
-  again P =
-      let d = opposite_twice a.disturbance in
+  again : (P : List Sample → Disturbance → Asked → Type 0) → P xs (opposite (opposite d)) (image (mirrored_asked a) a.table) → P xs d a
+  again P p =
       let s = other_twice a.side in
-      let same : image (mirrored_asked a) a.samples a.table ≡ a = λ i. record a { disturbance = d i; side = s i } in
-      subst P same
+      let same : image (mirrored_asked a) a.table ≡ a = λ i. record a { side = s i } in
+      subst (P xs d) same (subst (λ e. P xs e (image (mirrored_asked a) a.table)) (opposite_twice d) p)
 
-answers_turn : (a : Asked) (r : Result Report Refusal) → Mirrorable a.samples → (Delivers a r ↔ Delivers (mirrored_asked a) r)
-answers_turn a r m =
-    (delivers_over a (mirrored_record a.samples) (mirrored_targets a.table) (images a m) (images_targets a.table) r, λ d. again a m (λ b. Delivers b r) (delivers_over (mirrored_asked a) a.samples a.table (back a m) (home a m) r d))
+answers_turn : (xs : List Sample) (d : Disturbance) (a : Asked) (r : Result Report Refusal) → Mirrorable xs
+    → (Delivers xs d a r ↔ Delivers (mirrored_record xs) (opposite d) (mirrored_asked a) r)
+answers_turn xs d a r m = (
+  delivers_over xs d a (mirrored_record xs) (mirrored_targets a.table) (images xs d a m) (images_targets a.table) r,
+  λ given. again xs d a m (λ ys e b. Delivers ys e b r) (delivers_over (mirrored_record xs) (opposite d) (mirrored_asked a) xs a.table (back xs d a m) (home xs d a m) r given),
+)
 
-claims_turn : ClaimsTurn
-claims_turn xs d settings trigger weight table count claim r m =
-    let a = asked_for xs d settings trigger weight table count claim in
-    subst (λ b. Delivers a r ↔ Delivers b r) (asked_for_turns xs d settings trigger weight table count claim) (answers_turn a r m)
+exact_delivery_turns : (xs : List Sample) (d : Disturbance) (a : Asked) (x : Fraction) → Mirrorable xs
+    → (ExactDelivery xs d a x ↔ ExactDelivery (mirrored_record xs) (opposite d) (mirrored_asked a) x)
+exact_delivery_turns xs d a x m = (
+  exact_over xs d a (mirrored_record xs) (mirrored_targets a.table) (images xs d a m) (images_targets a.table) x,
+  λ given. again xs d a m (λ ys e b. ExactDelivery ys e b x) (exact_over (mirrored_record xs) (opposite d) (mirrored_asked a) xs a.table (back xs d a m) (home xs d a m) x given),
+)
+
+services_answer : ServicesAnswer
+services_answer xs d a s r m =
+    subst (λ b. Delivers xs d (for_service s a) r ↔ Delivers (mirrored_record xs) (opposite d) b r) (for_service_turns s a) (answers_turn xs d (for_service s a) r m)
 
 pub turning_laws_lem : TurningLaws
 turning_laws_lem = record {
   points_turn = λ d xs m. sym (same_course d xs (mirrored_record xs) (images_record xs m));
-  trajectory_turns = λ r d gs t. sym (same_trajectory r d gs (mirrored_targets gs) (images_targets gs) t);
-  base_push_turns = λ r d gs T p. sym (same_base_push r d gs (mirrored_targets gs) (images_targets gs) T p);
+  trajectory_turns = λ r c t. sym (same_trajectory r c (mirrored_targets c.targets) (images_targets c.targets) t);
+  base_push_turns = λ r c p. sym (same_base_push r c (mirrored_targets c.targets) (images_targets c.targets) p);
   sound_targets_turn = λ count gs. (sound_over count gs (mirrored_targets gs) (images_targets gs), sound_over count (mirrored_targets gs) gs (turn_targets gs (mirrored_targets gs) (images_targets gs)));
   sides_turn = sides_turn;
   answers_turn = answers_turn;
-  exact_delivery_turns = λ a x m.
-      (exact_over a (mirrored_record a.samples) (mirrored_targets a.table) (images a m) (images_targets a.table) x, λ d. again a m (λ b. ExactDelivery b x) (exact_over (mirrored_asked a) a.samples a.table (back a m) (home a m) x d));
+  exact_delivery_turns = exact_delivery_turns;
   services_turn = services_turn;
-  claims_turn = claims_turn;
+  services_answer = services_answer;
 }

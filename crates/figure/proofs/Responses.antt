@@ -1,6 +1,7 @@
 -- The weighed response, before and after the disturbance time, and where it and the values of windows are rounded.
-use Rattle.std.proofs.Common.{◌≡◌, ℕ, ◌-◌, ◌<◌, ◌≤◌, Bool, cond, List, length, ℤ, pos, ◌-ℤ◌, ◌*ℤ◌, sym, ap, ◌∙◌, subst, arith}
+use Rattle.std.proofs.Common.{◌≡◌, ℕ, ◌-◌, ◌<◌, ◌≤◌, Bool, cond, length, ℤ, pos, ◌-ℤ◌, ◌*ℤ◌, sym, ap, ◌∙◌, subst, arith}
 use borrow.Author.Differences.{ints}
+use Rattle.std.specs.List.{AllByRecursion}
 use Rattle.std.proofs.lemmas.Bool.{le-ltb, lt-ltb}
 use Rattle.exact.specs.Fractions.{Fraction, whole, ◌⊖◌, ◌·◌, ◌÷◌, Equal}
 use Rattle.exact.specs.Rounding.{half_up}
@@ -13,8 +14,9 @@ use Rattle.response.specs.Weights.{Factor, one}
 use Rattle.response.specs.declared.group.Window.{Window}
 use Rattle.figure.specs.declared.point.Point.{Point}
 use Rattle.figure.specs.Points.{Rises}
-use Rattle.figure.specs.Steps.{Weights, to_half_up, unrounded, hundredths, weight_at, weighed, response_in, value_of, Case}
-use Rattle.figure.specs.StepLaws.{Rounded, Weighed, uncompensated, factor_at, ResponseLaws, average_in, ValueLaws}
+use Rattle.figure.specs.Steps.{Case, to_half_up, unrounded, hundredths, weighed, weight, used, response, compensated, value}
+use Rattle.figure.specs.StepLaws.{Rounded, Weighed, factor_at, ResponseLaws, average_in, ValueLaws}
+use Rattle.figure.proofs.Curves.{value_is}
 use Rattle.figure.proofs.Targets.{rounded_half_up, rounded_equal}
 use Rattle.figure.proofs.Meanings.{level_value}
 
@@ -31,12 +33,12 @@ once : (x : Fraction) → Near 0 (weighed x one) x
 once x = near_same (reads_by 1 (omega arith) (reads-· 1 reads_self)) reads_self (omega arith)
 
 -- ---- the weight at a point
-module _ (weight : Weights) (T : ℕ) (p : Point) where
-  after : T ≤ p.time → weight_at weight T p ≡ weight p.dip (p.time - T)
-  after le = ap (λ (b : Bool). cond b one (weight p.dip (p.time - T))) (le-ltb p.time T le)
+module _ (c : Case) (p : Point) where
+  after : c.disturbance ≤ p.time → weight c p ≡ factor_at c p
+  after le = ap (λ (b : Bool). cond b one (factor_at c p)) (le-ltb p.time c.disturbance le)
 
-  before : p.time < T → weight_at weight T p ≡ one
-  before less = ap (λ (b : Bool). cond b one (weight p.dip (p.time - T))) (lt-ltb p.time T less)
+  before : p.time < c.disturbance → weight c p ≡ one
+  before less = ap (λ (b : Bool). cond b one (factor_at c p)) (lt-ltb p.time c.disturbance less)
 
 -- ---- a difference of whole numbers is its own half-up
 whole_difference : (v w : ℤ) → Near 0 (whole v ⊖ whole w) (whole (v -ℤ w))
@@ -51,24 +53,24 @@ half_up_difference v w =
 
 -- ---- the response at a point
 module _ (c : Case) (p : Point) where
-  from_disturbance : c.disturbance ≤ p.time → Weighed (factor_at c p) (uncompensated unrounded c p) (response_in unrounded c p)
-  from_disturbance le = rw (after c.weight c.disturbance p le) (near_equal (times_factor (uncompensated unrounded c p) (factor_at c p)))
+  from_disturbance : c.disturbance ≤ p.time → Weighed (factor_at c p) (response unrounded c p) (compensated unrounded c p)
+  from_disturbance le = rw (after c p le) (near_equal (times_factor (response unrounded c p) (factor_at c p)))
 
-  at_disturbance : p.time ≡ c.disturbance → Weighed (c.weight p.dip 0) (uncompensated unrounded c p) (response_in unrounded c p)
+  at_disturbance : p.time ≡ c.disturbance → Weighed (c.weight p.dip 0) (response unrounded c p) (compensated unrounded c p)
   at_disturbance e =
       let none : p.time - c.disturbance ≡ 0 = omega arith in
-      subst (λ (offset : ℕ). Weighed (c.weight p.dip offset) (uncompensated unrounded c p) (response_in unrounded c p)) none (from_disturbance (omega arith))
+      subst (λ (offset : ℕ). Weighed (c.weight p.dip offset) (response unrounded c p) (compensated unrounded c p)) none (from_disturbance (omega arith))
 
-  rounded_from_disturbance : (x : Fraction) → c.disturbance ≤ p.time → Weighed (factor_at c p) (uncompensated to_half_up c p) x → Rounded x (response_in to_half_up c p)
+  rounded_from_disturbance : (x : Fraction) → c.disturbance ≤ p.time → Weighed (factor_at c p) (response to_half_up c p) x → Rounded x (compensated to_half_up c p)
   rounded_from_disturbance x le h =
-      subst (λ (w : Factor). Rounded x (to_half_up (weighed (uncompensated to_half_up c p) w))) (sym (after c.weight c.disturbance p le))
-      (rounded_equal x _ (over_factor (uncompensated to_half_up c p) x (factor_at c p) h))
+      subst (λ (w : Factor). Rounded x (to_half_up (weighed (response to_half_up c p) w))) (sym (after c p le))
+      (rounded_equal x _ (over_factor (response to_half_up c p) x (factor_at c p) h))
 
-  own_before : p.time < c.disturbance → Near 0 (response_in unrounded c p) (uncompensated unrounded c p)
-  own_before less = rw (before c.weight c.disturbance p less) (once (uncompensated unrounded c p))
+  own_before : p.time < c.disturbance → Near 0 (compensated unrounded c p) (response unrounded c p)
+  own_before less = rw (before c p less) (once (response unrounded c p))
 
-  own_before_rounded : p.time < c.disturbance → Near 0 (response_in to_half_up c p) (uncompensated to_half_up c p)
-  own_before_rounded less = rw (before c.weight c.disturbance p less) (half_up_difference (p.push *ℤ pos 100) _)
+  own_before_rounded : p.time < c.disturbance → Near 0 (compensated to_half_up c p) (response to_half_up c p)
+  own_before_rounded less = rw (before c p less) (half_up_difference (p.push *ℤ pos 100) _)
 
 pub response_laws : (c : Case) (p : Point) → ResponseLaws c p
 response_laws c p = record {
@@ -89,15 +91,16 @@ hundredth_of x y h = near_trans {n = 0} {m = 0} (near_same reads_self (reads_by 
 in_watts : (watts : ℤ) (k : ℕ) → Near 0 (hundredths watts · k ÷ 100) (whole (watts *ℤ pos k))
 in_watts watts k = near_same (reads_by 100 (omega arith) (reads-· k (reads_whole_times watts 100))) (reads_whole_times watts k) (omega arith)
 
-level_in_watts : (watts : ℤ) (used : List Point) (w : Window) → Rises used → 0 < length used → w.start < w.end → value_of to_half_up (λ _. hundredths watts) used w ≡ whole (watts *ℤ pos w.multiplier)
-level_in_watts watts used w rises some less =
+level_in_watts : (c : Case) (watts : ℤ) (w : Window) → Rises (used c) → 0 < length (used c) → w.start < w.end → AllByRecursion (λ p. compensated to_half_up c p ≡ hundredths watts) (used c)
+    → value to_half_up c w ≡ whole (watts *ℤ pos w.multiplier)
+level_in_watts c watts w rises some less level =
     let same = near_equal (in_watts watts w.multiplier) in
-    level_value (watts *ℤ pos 100) used w rises some less ∙ ap whole (half_up_value _ _ same.0 same.1 ∙ half_up_of_whole (watts *ℤ pos w.multiplier))
+    level_value c (watts *ℤ pos 100) w rises some less level ∙ ap whole (half_up_value _ _ same.0 same.1 ∙ half_up_of_whole (watts *ℤ pos w.multiplier))
 
 pub value_laws : ValueLaws
 value_laws = record {
-  end_rounded_once = λ f used t. rounded_half_up _;
-  exact = λ c w. near_equal (hundredth_times (average_in unrounded c w) w.multiplier);
-  rounded_once = λ c w x h. rounded_equal x _ (hundredth_of x (average_in to_half_up c w · w.multiplier) h);
+  end_rounded_once = λ c t. rounded_half_up _;
+  exact = λ c w. rw (value_is unrounded c w) (near_equal (hundredth_times (average_in unrounded c w) w.multiplier));
+  rounded_once = λ c w x h. rw (value_is to_half_up c w) (rounded_equal x _ (hundredth_of x (average_in to_half_up c w · w.multiplier) h));
   level_in_watts = level_in_watts;
 }

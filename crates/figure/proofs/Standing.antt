@@ -4,24 +4,17 @@ use lib.Signed.{le_z}
 use borrow.Author.Differences.{up, down, ints}
 use Rattle.std.specs.List.{AllByRecursion}
 use Rattle.std.proofs.lemmas.Bool.{cases_lt}
+use Rattle.recording.specs.declared.refusal.Reason.TheVariants.{EmptyFirstWindow, WindowOutside}
 use Rattle.recording.specs.declared.sample.Sample.{Sample}
 use Rattle.response.specs.Groups.{Sound as SoundRow}
-use Rattle.timeline.specs.Checks.{Fault, FirstFault}
+use Rattle.timeline.specs.Checks.{FirstFault}
+use Rattle.disturbance.specs.declared.disturbance.Disturbance.{Disturbance}
 use Rattle.figure.specs.declared.span.Span.{Span}
 use Rattle.figure.specs.Windows.{Empty, on_clock, unless_empty, Proper}
 use Rattle.figure.specs.Asked.{Asked, shift_in, first_span, second_span}
-use Rattle.figure.specs.Defects.{Beyond, defects, window_defects}
+use Rattle.figure.specs.Defects.{Beyond, defects}
 use Rattle.figure.proofs.Bound.{ProperOrNone}
-
--- ---- no fault applies: in the place of each, that it does not
-abbrev pub NoneApply : {A : Type 0} → List (Fault A) → Type 0
-NoneApply [] = Unit {0}
-NoneApply (f ∷ fs) = (f.Applies → ⊥) × NoneApply fs
-
-pub none_apply : {A : Type 0} (fs : List (Fault A)) → FirstFault fs None → NoneApply fs
-none_apply [] h = tt
-none_apply (f ∷ fs) (inl h) = absurd (cc h.1)
-none_apply (f ∷ fs) (inr h) = (h.0, none_apply fs h.1)
+use Rattle.figure.proofs.Reasons.{cleared}
 
 -- ---- a window that stands: it starts before it ends, and both are times of the clock
 pub record Stands (w : Span) : Type 0 where
@@ -58,23 +51,22 @@ pub proper_or_none : (xs : List Sample) (w : Span) → (Beyond xs w → ⊥) →
 proper_or_none xs w within times = proper_unless xs w (le_z w.end w.start) refl within times
 
 -- ---- the windows of what is asked, at a shift, where none of its defects applies
-pub record Standing (a : Asked) (recovery : Option ℕ) (z : ℤ) : Type 0 where
-  pub first : Stands (first_span a recovery z)
-  pub second : (Empty (second_span a recovery z) → ⊥) → Stands (second_span a recovery z)
-  pub proper : Proper (on_clock (first_span a recovery z))
-  pub proper_second : ProperOrNone (unless_empty (second_span a recovery z))
+pub record Standing (xs : List Sample) (d : Disturbance) (a : Asked) (recovery : Option ℕ) (z : ℤ) : Type 0 where
+  pub first : Stands (first_span d a recovery z)
+  pub second : (Empty (second_span d a recovery z) → ⊥) → Stands (second_span d a recovery z)
+  pub proper : Proper (on_clock (first_span d a recovery z))
+  pub proper_second : ProperOrNone (unless_empty (second_span d a recovery z))
 
-pub windows_stand : (a : Asked) (recovery S : Option ℕ) (z : ℤ) → SoundRow a.row → FirstFault (defects a recovery S) None → shift_in a S ≡ Some z → Standing a recovery z
-windows_stand a recovery S z sound clear shifted =
-    let late : NoneApply (window_defects a recovery S) = (none_apply (defects a recovery S) clear).1.1.1.1.1 in
-    let none = late.1 in
-    let full : Empty (first_span a recovery z) → ⊥ = λ empty. none.0 (z, shifted, empty) in
-    let within : Beyond a.samples (first_span a recovery z) → ⊥ = λ beyond. none.1.0 (z, shifted, inl beyond) in
-    let within-second : Beyond a.samples (second_span a recovery z) → ⊥ = λ beyond. none.1.0 (z, shifted, inr beyond) in
-    let first : Stands (first_span a recovery z) = stands a.samples (first_span a recovery z) full within in
+pub windows_stand : (xs : List Sample) (d : Disturbance) (a : Asked) (recovery S : Option ℕ) (z : ℤ) → SoundRow a.row → FirstFault (defects xs d a recovery S) None → shift_in d a S ≡ Some z → Standing xs d a recovery z
+windows_stand xs d a recovery S z sound clear shifted =
+    let none = cleared xs d a recovery S clear in
+    let full : Empty (first_span d a recovery z) → ⊥ = λ empty. none EmptyFirstWindow (z, shifted, empty) in
+    let within : Beyond xs (first_span d a recovery z) → ⊥ = λ beyond. none WindowOutside (z, shifted, inl beyond) in
+    let within-second : Beyond xs (second_span d a recovery z) → ⊥ = λ beyond. none WindowOutside (z, shifted, inr beyond) in
+    let first : Stands (first_span d a recovery z) = stands xs (first_span d a recovery z) full within in
     record {
       first = first;
-      second = λ some. stands a.samples (second_span a recovery z) some within-second;
-      proper = stands_proper (first_span a recovery z) first sound.first.times.1;
-      proper_second = proper_or_none a.samples (second_span a recovery z) within-second sound.second.times.1;
+      second = λ some. stands xs (second_span d a recovery z) some within-second;
+      proper = stands_proper (first_span d a recovery z) first sound.first.times.1;
+      proper_second = proper_or_none xs (second_span d a recovery z) within-second sound.second.times.1;
     }

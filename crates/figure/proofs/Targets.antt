@@ -14,8 +14,8 @@ use Rattle.timeline.specs.declared.target.Target.{Target}
 use Rattle.disturbance.specs.declared.direction.Direction.{Direction}
 use Rattle.disturbance.specs.Direction.{push}
 use Rattle.figure.specs.declared.point.Point.{Point}
-use Rattle.figure.specs.Steps.{Rounding, to_half_up, unrounded, hundredths, trajectory, base_push}
-use Rattle.figure.specs.StepLaws.{Rounded, aim, TrajectoryLaws, RaisedLaws}
+use Rattle.figure.specs.Steps.{Rounding, Case, to_half_up, unrounded, power, trajectory, push_with, base_push}
+use Rattle.figure.specs.StepLaws.{Rounded, aim, with_targets, TrajectoryLaws, RaisedLaws}
 
 -- what is rounded half-up is the half-up of what is exact
 pub rounded_half_up : (x : Fraction) → Rounded x (to_half_up x)
@@ -91,28 +91,31 @@ later_targets g (h ∷ gs) rising = (rising 0 g (omega arith), later_targets h g
 abbrev time_of : Target → ℕ
 time_of g = g.time
 
-module _ (d : Direction) where
+module _ (c : Case) where
+  abbrev d : Direction
+  d = c.direction
+
   abbrev aim_of : Target → ℤ
   aim_of g = push d g.power *ℤ pos 100
 
-  through_target : (earlier later : List Target) (g : Target) → RisingTargets (earlier ++ g ∷ later) → Near 0 (trajectory unrounded d (earlier ++ g ∷ later) g.time) (aim d g)
+  through_target : (earlier later : List Target) (g : Target) → RisingTargets (earlier ++ g ∷ later) → Near 0 (trajectory unrounded (with_targets c (earlier ++ g ∷ later)) g.time) (aim d g)
   through_target [] later g rising = from_start time_of aim_of g later (later_targets g later rising)
   through_target (a ∷ earlier) later g rising = at_entry_from time_of aim_of a.time (aim d a) earlier g later (later_targets a (earlier ++ g ∷ later) rising)
 
-  through_target_rounded : (earlier later : List Target) (g : Target) → RisingTargets (earlier ++ g ∷ later) → trajectory to_half_up d (earlier ++ g ∷ later) g.time ≡ aim d g
+  through_target_rounded : (earlier later : List Target) (g : Target) → RisingTargets (earlier ++ g ∷ later) → trajectory to_half_up (with_targets c (earlier ++ g ∷ later)) g.time ≡ aim d g
   through_target_rounded earlier later g rising =
       let same = near_equal (through_target earlier later g rising) in
       ap whole (half_up_value _ _ same.0 same.1 ∙ half_up_of_whole (aim_of g))
 
   on_straight : (earlier later : List Target) (g h : Target) (t : ℕ) → RisingTargets (earlier ++ g ∷ h ∷ later) → g.time ≤ t → t < h.time
-      → trajectory unrounded d (earlier ++ g ∷ h ∷ later) t ≡ straight g.time (aim d g) h.time (aim d h) t
+      → trajectory unrounded (with_targets c (earlier ++ g ∷ h ∷ later)) t ≡ straight g.time (aim d g) h.time (aim d h) t
   on_straight [] later g h t rising after until = from_between time_of aim_of g h later t until
   on_straight (a ∷ earlier) later g h t rising after until =
       between_from time_of aim_of a.time (aim d a) earlier g h later t (later_targets a (earlier ++ g ∷ h ∷ later) rising) after until
 
   -- at the later of two neighbours, and before it
   straight_to : (earlier later : List Target) (g h : Target) (t : ℕ) → RisingTargets (earlier ++ g ∷ h ∷ later) → g.time ≤ t → t ≤ h.time → (t < h.time) ⊎ (h.time ≤ t)
-      → Near 0 (trajectory unrounded d (earlier ++ g ∷ h ∷ later) t · (h.time - g.time)) (aim d g · (h.time - t) ⊕ aim d h · (t - g.time))
+      → Near 0 (trajectory unrounded (with_targets c (earlier ++ g ∷ h ∷ later)) t · (h.time - g.time)) (aim d g · (h.time - t) ⊕ aim d h · (t - g.time))
   straight_to earlier later g h t rising after until (inl before) =
       rw (on_straight earlier later g h t rising after before) (by_ends (aim_of g) (aim_of h) g.time h.time t (omega arith) after until)
   straight_to earlier later g h t rising after until (inr reached) =
@@ -122,15 +125,15 @@ module _ (d : Direction) where
       rw (there, split) (near_trans {n = 0} {m = 0} (near_more (omega arith) (near-· (h.time - g.time) at_h)) (at_later (aim_of g) (aim_of h) g.time h.time))
 
   straight_between : (earlier later : List Target) (g h : Target) (t : ℕ) → RisingTargets (earlier ++ g ∷ h ∷ later) → g.time ≤ t → t ≤ h.time
-      → Near 0 (trajectory unrounded d (earlier ++ g ∷ h ∷ later) t · (h.time - g.time)) (aim d g · (h.time - t) ⊕ aim d h · (t - g.time))
+      → Near 0 (trajectory unrounded (with_targets c (earlier ++ g ∷ h ∷ later)) t · (h.time - g.time)) (aim d g · (h.time - t) ⊕ aim d h · (t - g.time))
   straight_between earlier later g h t rising after until = straight_to earlier later g h t rising after until (cases_lt t h.time)
 
-pub trajectory_laws : (d : Direction) → TrajectoryLaws d
-trajectory_laws d = record {
-  through_targets = λ earlier later g ordered. near_equal (through_target d earlier later g ordered.rising);
-  through_targets_rounded = λ earlier later g ordered. through_target_rounded d earlier later g ordered.rising;
-  straight_between = λ earlier later g h t ordered after until. near_equal (straight_between d earlier later g h t ordered.rising after until);
-  rounded_once = λ gs t. rounded_half_up _;
+pub trajectory_laws : (c : Case) → TrajectoryLaws c
+trajectory_laws c = record {
+  through_targets = λ earlier later g ordered. near_equal (through_target c earlier later g ordered.rising);
+  through_targets_rounded = λ earlier later g ordered. through_target_rounded c earlier later g ordered.rising;
+  straight_between = λ earlier later g h t ordered after until. near_equal (straight_between c earlier later g h t ordered.rising after until);
+  rounded_once = λ t. rounded_half_up _;
 }
 
 -- ---- differences and 0
@@ -158,32 +161,35 @@ no_more : (x : Fraction) → Near 0 (x ⊕ whole (pos 0)) x
 no_more x = near_same (reads-⊕ reads_self (reads_whole (pos 0))) reads_self (omega arith)
 
 -- ---- the push of a base sample
-module _ (r : Rounding) (d : Direction) where
-  pub by_rise : (gs : List Target) (T : ℕ) (p : Point) → 0 < length gs → trajectory r d gs p.time ≼ trajectory r d gs T
-      → base_push r d gs T p ≡ hundredths p.push ⊕ (trajectory r d gs T ⊖ trajectory r d gs p.time)
-  by_rise [] T p some up = absurd (omega arith)
-  by_rise (g ∷ gs) T p some up = ap (λ (x : Fraction). hundredths p.push ⊕ x) (rises_by (trajectory r d (g ∷ gs) T) (trajectory r d (g ∷ gs) p.time) up)
+module _ (r : Rounding) (c : Case) (p : Point) where
+  abbrev here : Fraction
+  here = trajectory r c p.time
 
-  by_fall : (gs : List Target) (T : ℕ) (p : Point) → trajectory r d gs T ≼ trajectory r d gs p.time → Near 0 (base_push r d gs T p) (hundredths p.push)
-  by_fall [] T p down = near_refl
-  by_fall (g ∷ gs) T p down = near_trans {n = 0} {m = 0} (near-⊕ {n = 0} {m = 0} near_refl (falls _ _ down)) (no_more _)
+  abbrev there : Fraction
+  there = trajectory r c c.disturbance
 
-  pub on_rising : (gs : List Target) (T : ℕ) (p : Point) → 0 < length gs → Equal (hundredths p.push) (trajectory r d gs p.time) → trajectory r d gs p.time ≼ trajectory r d gs T
-      → Near 0 (base_push r d gs T p) (trajectory r d gs T)
-  on_rising gs T p some on up =
-      rw (by_rise gs T p some up) (near_trans {n = 0} {m = 0} (near-⊕ {n = 0} {m = 0} (equal_near on) near_refl) (back _ _))
+  by_rise : (gs : List Target) → 0 < length gs → here ≼ there → push_with r c gs p ≡ power p ⊕ (there ⊖ here)
+  by_rise [] some up = absurd (omega arith)
+  by_rise (g ∷ gs) some up = ap (λ (x : Fraction). power p ⊕ x) (rises_by there here up)
 
-  own : (gs : List Target) (T : ℕ) (p : Point) → gs ≡ [] → base_push r d gs T p ≡ hundredths p.push
-  own [] T p none = refl
-  own (g ∷ gs) T p none = cc
+  by_fall : (gs : List Target) → there ≼ here → Near 0 (push_with r c gs p) (power p)
+  by_fall [] down = near_refl
+  by_fall (g ∷ gs) down = near_trans {n = 0} {m = 0} (near-⊕ {n = 0} {m = 0} near_refl (falls _ _ down)) (no_more _)
 
-same : {x y : Fraction} → x ≡ y → Near 0 x y
-same {x} e = subst (Near 0 x) e near_refl
+  pub on_rising : 0 < length c.targets → Equal (power p) here → here ≼ there → Near 0 (base_push r c p) there
+  on_rising some on up = rw (by_rise c.targets some up) (near_trans {n = 0} {m = 0} (near-⊕ {n = 0} {m = 0} (equal_near on) near_refl) (back _ _))
 
-pub raised_laws : (r : Rounding) (d : Direction) (gs : List Target) (T : ℕ) (p : Point) → RaisedLaws r d gs T p
-raised_laws r d gs T p = record {
-  own_without_targets = own r d gs T p;
-  raised_by_rise = λ some up. near_equal (same (by_rise r d gs T p some up));
-  kept_by_fall = λ down. near_equal (by_fall r d gs T p down);
-  follows_targets = λ some on up. near_equal (on_rising r d gs T p some on up);
-}
+  own : (gs : List Target) → gs ≡ [] → push_with r c gs p ≡ power p
+  own [] none = refl
+  own (g ∷ gs) none = cc
+
+  same : {x y : Fraction} → x ≡ y → Near 0 x y
+  same {x} e = subst (Near 0 x) e near_refl
+
+  pub raised_laws : RaisedLaws r c p
+  raised_laws = record {
+    own_without_targets = own c.targets;
+    raised_by_rise = λ some up. near_equal (same (by_rise c.targets some up));
+    kept_by_fall = λ down. near_equal (by_fall c.targets down);
+    follows_targets = λ some on up. near_equal (on_rising some on up);
+  }

@@ -7,111 +7,73 @@ use Rattle.std.proofs.lemmas.Int.{clamps}
 use Rattle.recording.specs.declared.refusal.Reason.{Reason}
 use Rattle.recording.specs.declared.refusal.Reason.TheVariants.{EmptyFirstWindow, WindowOutside, WideGap}
 use Rattle.recording.specs.declared.sample.Sample.{Sample}
+use Rattle.recording.specs.Refusals.{refusal}
 use Rattle.disturbance.specs.Trace.{at, Rising}
+use Rattle.disturbance.specs.declared.disturbance.Disturbance.{Disturbance}
 use Rattle.figure.specs.declared.span.Span.{Span}
 use Rattle.figure.specs.Windows.{Empty}
 use Rattle.figure.specs.Asked.{Asked, shift_in, first_span, second_span}
-use Rattle.figure.specs.Defects.{Beyond, Shares, Gapped, AtShift, defects}
-use Rattle.figure.specs.Barred.{OneApplies, Bars}
+use Rattle.figure.specs.Defects.{Beyond, Shares, Gapped, AtShift, EitherWindow}
+use Rattle.figure.specs.Barred.{Bars}
 use Rattle.figure.specs.WindowLaws.{ExactlyIf, TwoTimes, HasShift, WindowOf, Neighbours, Covered, EmptyWindows, OutsideWindows, SharingSamples, WideGaps}
+use Rattle.figure.proofs.Reasons.{Says, says, applies_for}
 use Rattle.figure.proofs.Rising.{rising_rest}
 use Rattle.figure.proofs.Meanings.{empty_by_recovery}
 use Rattle.figure.proofs.Once.{recovery_once, trigger_time_once}
 
--- ---- the defect that answers with a reason
-module _ (a : Asked) (recovery S : Option ℕ) where
-  only_empty : OneApplies (defects a recovery S) EmptyFirstWindow → AtShift (shift_in a S) (λ z. Empty (first_span a recovery z))
-  only_empty (inl (h, e)) = absurd (cc e)
-  only_empty (inr (inl (h, e))) = absurd (cc e)
-  only_empty (inr (inr (inl (h, e)))) = absurd (cc e)
-  only_empty (inr (inr (inr (inl (h, e))))) = absurd (cc e)
-  only_empty (inr (inr (inr (inr (inl (h, e)))))) = absurd (cc e)
-  only_empty (inr (inr (inr (inr (inr (inl (h, e))))))) = absurd (cc e)
-  only_empty (inr (inr (inr (inr (inr (inr (inl (h, e)))))))) = h
-  only_empty (inr (inr (inr (inr (inr (inr (inr (inl (h, e))))))))) = absurd (cc e)
-  only_empty (inr (inr (inr (inr (inr (inr (inr (inr (inl (h, e)))))))))) = absurd (cc e)
-  only_empty (inr (inr (inr (inr (inr (inr (inr (inr (inr (h)))))))))) = absurd h
-
-  only_outside : OneApplies (defects a recovery S) WindowOutside → AtShift (shift_in a S) (λ z. Beyond a.samples (first_span a recovery z) ⊎ Beyond a.samples (second_span a recovery z))
-  only_outside (inl (h, e)) = absurd (cc e)
-  only_outside (inr (inl (h, e))) = absurd (cc e)
-  only_outside (inr (inr (inl (h, e)))) = absurd (cc e)
-  only_outside (inr (inr (inr (inl (h, e))))) = absurd (cc e)
-  only_outside (inr (inr (inr (inr (inl (h, e)))))) = absurd (cc e)
-  only_outside (inr (inr (inr (inr (inr (inl (h, e))))))) = absurd (cc e)
-  only_outside (inr (inr (inr (inr (inr (inr (inl (h, e)))))))) = absurd (cc e)
-  only_outside (inr (inr (inr (inr (inr (inr (inr (inl (h, e))))))))) = h
-  only_outside (inr (inr (inr (inr (inr (inr (inr (inr (inl (h, e)))))))))) = absurd (cc e)
-  only_outside (inr (inr (inr (inr (inr (inr (inr (inr (inr (h)))))))))) = absurd h
-
-  only_wide : OneApplies (defects a recovery S) WideGap → AtShift (shift_in a S) (λ z. Gapped a.samples a.row.widest_gap (first_span a recovery z) ⊎ Gapped a.samples a.row.widest_gap (second_span a recovery z))
-  only_wide (inl (h, e)) = absurd (cc e)
-  only_wide (inr (inl (h, e))) = absurd (cc e)
-  only_wide (inr (inr (inl (h, e)))) = absurd (cc e)
-  only_wide (inr (inr (inr (inl (h, e))))) = absurd (cc e)
-  only_wide (inr (inr (inr (inr (inl (h, e)))))) = absurd (cc e)
-  only_wide (inr (inr (inr (inr (inr (inl (h, e))))))) = absurd (cc e)
-  only_wide (inr (inr (inr (inr (inr (inr (inl (h, e)))))))) = absurd (cc e)
-  only_wide (inr (inr (inr (inr (inr (inr (inr (inl (h, e))))))))) = absurd (cc e)
-  only_wide (inr (inr (inr (inr (inr (inr (inr (inr (inl (h, e)))))))))) = h
-  only_wide (inr (inr (inr (inr (inr (inr (inr (inr (inr (h)))))))))) = absurd h
-
-module _ (a : Asked) (recovery : Option ℕ) (shift : ℤ) (known : HasShift a recovery shift) where
+module _ (xs : List Sample) (d : Disturbance) (a : Asked) (recovery : Option ℕ) (shift : ℤ) (known : HasShift xs d a recovery shift) where
   abbrev S : Option ℕ
   S = known.trigger_time
 
   -- at the one recovery and trigger time
-  at_known : (why : Reason) → Bars a why → OneApplies (defects a recovery S) why
+  at_known : (why : Reason) → Bars xs d a (refusal why 0 0) → Says xs d a recovery S why
   at_known why b =
-      let recovers = recovery_once a b.recovery recovery b.trigger_time S b.times known.times in
-      let triggers = trigger_time_once a b.recovery recovery b.trigger_time S b.times known.times in
-      subst (λ (o : Option ℕ). OneApplies (defects a o S) why) recovers (subst (λ (o : Option ℕ). OneApplies (defects a b.recovery o) why) triggers b.applies)
+      let recovers = recovery_once xs d a b.recovery recovery b.trigger_time S b.times known.times in
+      let triggers = trigger_time_once xs d a b.recovery recovery b.trigger_time S b.times known.times in
+      subst (λ (o : Option ℕ). Says xs d a o S why) recovers (subst (λ (o : Option ℕ). Says xs d a b.recovery o why) triggers (says xs d a b.recovery b.trigger_time (refusal why 0 0) b.applies))
 
-  bars : (why : Reason) → OneApplies (defects a recovery S) why → Bars a why
-  bars why h = record { recovery = recovery; trigger_time = S; times = known.times; applies = h }
+  bars : (why : Reason) → Says xs d a recovery S why → Bars xs d a (refusal why 0 0)
+  bars why h = record { recovery = recovery; trigger_time = S; times = known.times; applies = applies_for xs d a recovery S why h }
 
   -- at the one shift
-  from_shift : (P : ℤ → Type 0) → AtShift (shift_in a S) P → P shift
+  from_shift : (P : ℤ → Type 0) → AtShift (shift_in d a S) P → P shift
   from_shift P (z, e, p) = let shifted = known.shifted in let same : z ≡ shift = cc in subst P same p
 
-  to_shift : (P : ℤ → Type 0) → P shift → AtShift (shift_in a S) P
-  to_shift P p = (shift, known.shifted, p)
+  empty_bars : Empty (first_span d a recovery shift) → Bars xs d a (refusal EmptyFirstWindow 0 0)
+  empty_bars h = bars EmptyFirstWindow (shift, known.shifted, h)
 
-  empty_bars : Empty (first_span a recovery shift) → Bars a EmptyFirstWindow
-  empty_bars h = bars EmptyFirstWindow (inr (inr (inr (inr (inr (inr (inl (to_shift (λ z. Empty (first_span a recovery z)) h, refl))))))))
+  bars_empty : Bars xs d a (refusal EmptyFirstWindow 0 0) → Empty (first_span d a recovery shift)
+  bars_empty b = from_shift (λ z. Empty (first_span d a recovery z)) (at_known EmptyFirstWindow b)
 
-  bars_empty : Bars a EmptyFirstWindow → Empty (first_span a recovery shift)
-  bars_empty b = from_shift (λ z. Empty (first_span a recovery z)) (only_empty a recovery S (at_known EmptyFirstWindow b))
+  outside_bars : Beyond xs (first_span d a recovery shift) ⊎ Beyond xs (second_span d a recovery shift) → Bars xs d a (refusal WindowOutside 0 0)
+  outside_bars h = bars WindowOutside (shift, known.shifted, h)
 
-  outside_bars : Beyond a.samples (first_span a recovery shift) ⊎ Beyond a.samples (second_span a recovery shift) → Bars a WindowOutside
-  outside_bars h = bars WindowOutside (inr (inr (inr (inr (inr (inr (inr (inl (to_shift (λ z. Beyond a.samples (first_span a recovery z) ⊎ Beyond a.samples (second_span a recovery z)) h, refl)))))))))
-
-  wide_bars : Gapped a.samples a.row.widest_gap (first_span a recovery shift) ⊎ Gapped a.samples a.row.widest_gap (second_span a recovery shift) → Bars a WideGap
-  wide_bars h = bars WideGap (inr (inr (inr (inr (inr (inr (inr (inr (inl (to_shift (λ z. Gapped a.samples a.row.widest_gap (first_span a recovery z) ⊎ Gapped a.samples a.row.widest_gap (second_span a recovery z)) h, refl))))))))))
+  wide_bars : Gapped xs a.row.widest_gap (first_span d a recovery shift) ⊎ Gapped xs a.row.widest_gap (second_span d a recovery shift) → Bars xs d a (refusal WideGap 0 0)
+  wide_bars h = bars WideGap (shift, known.shifted, h)
 
 -- of either window
-either : (a : Asked) (recovery : Option ℕ) (s : Span) (w : WindowOf a recovery s) (P : Span → Type 0) → P s → P (first_span a recovery w.shift) ⊎ P (second_span a recovery w.shift)
-either a recovery s w P p = by w.either
+either : (xs : List Sample) (d : Disturbance) (a : Asked) (recovery : Option ℕ) (s : Span) (w : WindowOf xs d a recovery s) (P : Span → Type 0) → P s → P (first_span d a recovery w.shift) ⊎ P (second_span d a recovery w.shift)
+either xs d a recovery s w P p = by w.either
   where
-    by : (s ≡ first_span a recovery w.shift) ⊎ (s ≡ second_span a recovery w.shift) → P (first_span a recovery w.shift) ⊎ P (second_span a recovery w.shift)
+    by : (s ≡ first_span d a recovery w.shift) ⊎ (s ≡ second_span d a recovery w.shift) → P (first_span d a recovery w.shift) ⊎ P (second_span d a recovery w.shift)
     by (inl e) = inl (subst P e p)
     by (inr e) = inr (subst P e p)
 
 -- where neither window has it
-module _ (a : Asked) (P : Span → Type 0) (none : (recovery : Option ℕ) (s : Span) → WindowOf a recovery s → P s → ⊥) where
-  neither : (recovery : Option ℕ) (shift : ℤ) → HasShift a recovery shift → P (first_span a recovery shift) ⊎ P (second_span a recovery shift) → ⊥
+module _ (xs : List Sample) (d : Disturbance) (a : Asked) (P : Span → Type 0) (none : (recovery : Option ℕ) (s : Span) → WindowOf xs d a recovery s → P s → ⊥) where
+  neither : (recovery : Option ℕ) (shift : ℤ) → HasShift xs d a recovery shift → P (first_span d a recovery shift) ⊎ P (second_span d a recovery shift) → ⊥
   neither recovery shift known (inl p) = none recovery _ (record { shift = shift; known = known; either = inl refl }) p
   neither recovery shift known (inr p) = none recovery _ (record { shift = shift; known = known; either = inr refl }) p
 
-  never : (why : Reason) (b : Bars a why) → AtShift (shift_in a b.trigger_time) (λ z. P (first_span a b.recovery z) ⊎ P (second_span a b.recovery z)) → ⊥
+  never : (why : Reason) (b : Bars xs d a (refusal why 0 0)) → EitherWindow xs d a b.recovery b.trigger_time P → ⊥
   never why b (z, e, h) = neither b.recovery z (record { trigger_time = b.trigger_time; times = b.times; shifted = e }) h
 
 -- ---- empty windows
 pub empty_windows : EmptyWindows
 empty_windows = record {
-  first_bars = λ a recovery shift known rises. (
-    λ b. empty_by_recovery.empty a.disturbance.time shift recovery a.row.first rises (bars_empty a recovery shift known b),
-    λ h. empty_bars a recovery shift known (empty_by_recovery.recovered a.disturbance.time shift recovery a.row.first h),
+  first_bars = λ xs d a recovery shift known rises. (
+    λ b. empty_by_recovery.empty d.time shift recovery a.row.first rises (bars_empty xs d a recovery shift known b),
+    λ h. empty_bars xs d a recovery shift known (empty_by_recovery.recovered d.time shift recovery a.row.first h),
   );
   one_millisecond_left = λ T shift recovery w rises is. omega (arith, ints, clamps, is);
 }
@@ -142,12 +104,12 @@ not_beyond xs w first last later earlier e e' (inr c) (full, inr late) =
 
 pub outside_windows : OutsideWindows
 outside_windows = record {
-  begins_early = λ a recovery s first later w rising e full less. outside_bars a recovery w.shift w.known
-      (either a recovery s w (Beyond a.samples) (full, inl (subst (AllByRecursion (λ (x : Sample). s.start <ℤ pos x.time)) (sym e) (all_later s.start first later (subst Rising e rising) less))));
-  ends_late = λ a recovery s earlier last w rising e full less. outside_bars a recovery w.shift w.known
-      (either a recovery s w (Beyond a.samples) (full, inr (subst (AllByRecursion (λ (x : Sample). pos x.time <ℤ s.end)) (sym e) (all_earlier s.end last earlier (subst Rising e rising) less))));
-  within_samples = λ a first last later earlier e e' within b.
-      never a (Beyond a.samples) (λ recovery s w. not_beyond a.samples s first last later earlier e e' (within recovery s w)) WindowOutside b (only_outside a b.recovery b.trigger_time b.applies);
+  begins_early = λ xs d a recovery s first later w rising e full less. outside_bars xs d a recovery w.shift w.known
+      (either xs d a recovery s w (Beyond xs) (full, inl (subst (AllByRecursion (λ (x : Sample). s.start <ℤ pos x.time)) (sym e) (all_later s.start first later (subst Rising e rising) less))));
+  ends_late = λ xs d a recovery s earlier last w rising e full less. outside_bars xs d a recovery w.shift w.known
+      (either xs d a recovery s w (Beyond xs) (full, inr (subst (AllByRecursion (λ (x : Sample). pos x.time <ℤ s.end)) (sym e) (all_earlier s.end last earlier (subst Rising e rising) less))));
+  within_samples = λ xs d a first last later earlier e e' within b.
+      never xs d a (Beyond xs) (λ recovery s w. not_beyond xs s first last later earlier e e' (within recovery s w)) WindowOutside b (says xs d a b.recovery b.trigger_time _ b.applies);
 }
 
 -- ---- samples that share with a window
@@ -187,10 +149,10 @@ gapped xs widest s k earlier later n shares wide =
       wide = rw (n.earlier_is, n.later_is) (omega arith);
     }
 
-wider_bars : (a : Asked) (recovery : Option ℕ) (s : Span) (k : ℕ) (earlier later : Sample) → WindowOf a recovery s → Neighbours a.samples k earlier later → Shares earlier later s
-    → earlier.time + a.row.widest_gap + 1 ≤ later.time → Bars a WideGap
-wider_bars a recovery s k earlier later w n shares wide =
-    wide_bars a recovery w.shift w.known (either a recovery s w (Gapped a.samples a.row.widest_gap) (gapped a.samples a.row.widest_gap s k earlier later n shares wide))
+wider_bars : (xs : List Sample) (d : Disturbance) (a : Asked) (recovery : Option ℕ) (s : Span) (k : ℕ) (earlier later : Sample) → WindowOf xs d a recovery s → Neighbours xs k earlier later → Shares earlier later s
+    → earlier.time + a.row.widest_gap + 1 ≤ later.time → Bars xs d a (refusal WideGap 0 0)
+wider_bars xs d a recovery s k earlier later w n shares wide =
+    wide_bars xs d a recovery w.shift w.known (either xs d a recovery s w (Gapped xs a.row.widest_gap) (gapped xs a.row.widest_gap s k earlier later n shares wide))
 
 narrow : (xs : List Sample) (widest : ℕ) (s : Span) → ((k : ℕ) (earlier later : Sample) → Neighbours xs k earlier later → Shares earlier later s → later.time ≤ earlier.time + widest) → Gapped xs widest s → ⊥
 narrow xs widest s none g =
@@ -200,7 +162,7 @@ narrow xs widest s none g =
 pub wide_gaps : WideGaps
 wide_gaps = record {
   wider_bars = wider_bars;
-  straddling_bars = λ a recovery s k earlier later w n lo hi still cut wide. wider_bars a (Some recovery) s k earlier later w n (straddles earlier later recovery s lo hi still cut) wide;
-  as_wide_passes = λ a none b. never a (Gapped a.samples a.row.widest_gap) (λ recovery s w. narrow a.samples a.row.widest_gap s (λ k earlier later n shares. none recovery s k earlier later w n shares)) WideGap b
-      (only_wide a b.recovery b.trigger_time b.applies);
+  straddling_bars = λ xs d a recovery s k earlier later w n lo hi still cut wide. wider_bars xs d a (Some recovery) s k earlier later w n (straddles earlier later recovery s lo hi still cut) wide;
+  as_wide_passes = λ xs d a none b. never xs d a (Gapped xs a.row.widest_gap) (λ recovery s w. narrow xs a.row.widest_gap s (λ k earlier later n shares. none recovery s k earlier later w n shares)) WideGap b
+      (says xs d a b.recovery b.trigger_time _ b.applies);
 }

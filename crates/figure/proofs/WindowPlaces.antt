@@ -108,7 +108,7 @@ module _ (s e : ℕ) (ordered : s ≤ e) where
       ]
 
 pub used_points_are : UsedPoints
-used_points_are = record { all_without_recovery = all_used; those_before_recovery = λ u ps h. those_before u ps h; those_strictly_inside = λ s e ps h le. those_inside s e le ps h }
+used_points_are = record { all_without_recovery = all_used; those_before_recovery = λ u ps h. those_before u ps h; of_case_without_recovery = λ c e. subst (λ (o : Option ℕ). used_points o c.points ≡ c.points) (sym e) (all_used c.points); of_case = λ c u e h. subst (λ (o : Option ℕ). CutOff c.points (used_points o c.points) u) (sym e) (those_before u c.points h); those_strictly_inside = λ s e ps h le. those_inside s e le ps h }
 
 -- ---- where windows lie
 on_clock_measured : (T : ℕ) (shift : ℤ) (recovery : Option ℕ) (w : Window) (t : ℤ)
@@ -163,7 +163,7 @@ module _ (T : ℕ) (shift : ℤ) (recovery : Option ℕ) (w : Window) where
 pub places_of_windows : PlacesOfWindows
 places_of_windows = record {
   on_the_clock = on_clock_measured;
-  first_of_case = λ a recovery shift b. is_placed a.disturbance.time shift recovery a.row.first b;
-  second_of_case = λ a recovery shift b. is_there a.disturbance.time shift recovery a.row.second b;
-  no_second = λ a recovery shift rises. none_left a.disturbance.time shift recovery a.row.second rises;
+  first_of_case = λ xs d a recovery shift b. is_placed d.time shift recovery a.row.first b;
+  second_of_case = λ xs d a recovery shift b. is_there d.time shift recovery a.row.second b;
+  no_second = λ xs d a recovery shift rises. none_left d.time shift recovery a.row.second rises;
 }

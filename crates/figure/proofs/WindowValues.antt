@@ -2,7 +2,7 @@
 use Rattle.std.proofs.Common.{◌≡◌, ℕ, ◌-◌, ◌*◌, ◌<◌, ◌≤◌, Bool, true, false, cond, ◌&&◌, ltb, List, [], ◌∷◌, ◌++◌, ℤ, pos, ◌+ℤ◌, ◌*ℤ◌, sym, refl, ap, ◌∙◌, subst, inl, inr, arith}
 use Rattle.std.specs.List.{AllByRecursion}
 use Rattle.std.proofs.lemmas.Bool.{cases_lt}
-use Rattle.exact.specs.Fractions.{Fraction, whole, ◌⊕◌, ◌⊖◌, ◌·◌, ◌÷◌, Equal}
+use Rattle.exact.specs.Fractions.{Fraction, whole, ◌⊕◌, ◌·◌, ◌÷◌, Equal}
 use Rattle.exact.specs.Lines.{line}
 use Rattle.exact.specs.Averages.{average, Climbs, evenly}
 use Rattle.exact.proofs.Naturals.{reads_self, reads-⊕, reads-·}
@@ -17,8 +17,9 @@ use Rattle.exact.proofs.EvenChanges.{half, straight_even, average_even}
 use Rattle.response.specs.declared.group.Window.{Window}
 use Rattle.figure.specs.declared.point.Point.{Point}
 use Rattle.figure.specs.Points.{After, Rises}
-use Rattle.figure.specs.Steps.{Rounding, unrounded, hundredths, weight_at, weighed, is_used, inside, value_of, Case, base_in, response_in, value_in}
-use Rattle.figure.specs.WindowLaws.{Steady, SteadyRoundings, used_in, end_in, OnLine, EndsOfWindows, window, ChangeEvenly, IsTimes, ValuesOfWindows}
+use Rattle.figure.specs.Steps.{Rounding, Case, unrounded, weighed, is_used, inside, weight, used, response, compensated, at_end, value}
+use Rattle.figure.proofs.Curves.{averaged, value_is}
+use Rattle.figure.specs.WindowLaws.{Steady, SteadyRoundings, OnLine, EndsOfWindows, window, ChangeEvenly, IsTimes, ValuesOfWindows}
 use Rattle.figure.proofs.Rising.{rises_kept, inside_climbs}
 use Rattle.figure.proofs.WindowAreas.{near_from, not_after_start, not_before_end, none_later, L, at_own, before_next, area, areas_join}
 
@@ -76,36 +77,36 @@ module _ (p : Point) (later : List Point) where
 -- ---- in a case
 module _ (r : Rounding) (c : Case) where
   abbrev f : Point → Fraction
-  f p = response_in r c p
+  f p = compensated r c p
 
-  pub rises_used : Rises c.points → Rises (used_in c)
-  rises_used h = rises_kept (is_used c.recovery) c.points h
+  pub rises_used : Rises c.points → Rises (used c)
+  rises_used h = rises_kept (λ p. is_used c.recovery p.time) c.points h
 
   -- a response is rounded already
   settled : Steady r → (p : Point) → Equal (r (f p)) (f p)
-  settled s p = s.once (weighed (hundredths p.push ⊖ base_in r c) (weight_at c.weight c.disturbance p))
+  settled s p = s.once (weighed (response r c p) (weight c p))
 
-  at_time : (ps : List Point) (t : ℕ) → used_in c ≡ ps → end_in r c t ≡ r (line (λ (q : Point). q.time) f ps t)
+  at_time : (ps : List Point) (t : ℕ) → used c ≡ ps → at_end r c t ≡ r (line (λ (q : Point). q.time) f ps t)
   at_time ps t e = ap (λ (us : List Point). r (line (λ (q : Point). q.time) f us t)) e
 
-  rises_so : (ps : List Point) → Rises c.points → used_in c ≡ ps → Rises ps
+  rises_so : (ps : List Point) → Rises c.points → used c ≡ ps → Rises ps
   rises_so ps h e = subst Rises e (rises_used h)
 
   -- the response at the end of a window is r of the line from the point p on
-  end_by : (earlier : List Point) (p : Point) (later : List Point) (t : ℕ) → Rises c.points → used_in c ≡ earlier ++ p ∷ later → p.time ≤ t → end_in r c t ≡ r (L f p.time (f p) later t)
+  end_by : (earlier : List Point) (p : Point) (later : List Point) (t : ℕ) → Rises c.points → used c ≡ earlier ++ p ∷ later → p.time ≤ t → at_end r c t ≡ r (L f p.time (f p) later t)
   end_by earlier p later t h e le = at_time _ t e ∙ ap r (line_from_it p later f t le earlier (rises_so _ h e))
 
-  at_a_point : (earlier : List Point) (p : Point) (later : List Point) → Steady r → Rises c.points → used_in c ≡ earlier ++ p ∷ later → Equal (end_in r c p.time) (f p)
+  at_a_point : (earlier : List Point) (p : Point) (later : List Point) → Steady r → Rises c.points → used c ≡ earlier ++ p ∷ later → Equal (at_end r c p.time) (f p)
   at_a_point earlier p later s h e =
       equal_by (equal_from (end_by earlier p later p.time h e (omega arith))) (equal_by (s.by_value _ _ (near_equal (at_own f p.time (f p) later (rises_after p later earlier (rises_so _ h e))))) (settled s p))
 
-  between_neighbours : (earlier : List Point) (p q : Point) (later : List Point) (t : ℕ) → Steady r → Rises c.points → used_in c ≡ earlier ++ p ∷ q ∷ later → p.time ≤ t → t ≤ q.time
-      → (x : Fraction) × OnLine p.time (f p) q.time (f q) t x × Equal (end_in r c t) (r x)
+  between_neighbours : (earlier : List Point) (p q : Point) (later : List Point) (t : ℕ) → Steady r → Rises c.points → used c ≡ earlier ++ p ∷ q ∷ later → p.time ≤ t → t ≤ q.time
+      → (x : Fraction) × OnLine p.time (f p) q.time (f q) t x × Equal (at_end r c t) (r x)
   between_neighbours earlier p q later t s h e lo hi =
       let after = rises_after p (q ∷ later) earlier (rises_so _ h e) in
       (L f p.time (f p) (q ∷ later) t, near_equal (before_next f p.time (f p) q later t after.0 after.1 lo hi).is, equal_from (end_by earlier p (q ∷ later) t h e lo))
 
-  pub level_after_last : (earlier : List Point) (last : Point) (t : ℕ) → Steady r → Rises c.points → used_in c ≡ earlier ++ last ∷ [] → last.time ≤ t → Equal (end_in r c t) (f last)
+  pub level_after_last : (earlier : List Point) (last : Point) (t : ℕ) → Steady r → Rises c.points → used c ≡ earlier ++ last ∷ [] → last.time ≤ t → Equal (at_end r c t) (f last)
   level_after_last earlier last t s h e le = equal_by (equal_from (end_by earlier last [] t h e le)) (settled s last)
 
 pub ends_of_windows : EndsOfWindows
@@ -151,22 +152,22 @@ module _ (r : Rounding) (c : Case) where
   all_near b k (p ∷ ps) h = (equal_near h.0, all_near b k ps h.1)
 
   -- by the points inside, and by the average
-  by_average : (w : Window) (ks : List Point) (x : Fraction) → Steady r → inside w.start w.end (used_in c) ≡ ks
-      → Near 0 (average (λ (p : Point). p.time) (f r c) w.start (end_in r c w.start) ks w.end (end_in r c w.end)) x → IsTimes r c w x
+  by_average : (w : Window) (ks : List Point) (x : Fraction) → Steady r → inside w.start w.end (used c) ≡ ks
+      → Near 0 (average (λ (p : Point). p.time) (f r c) w.start (at_end r c w.start) ks w.end (at_end r c w.end)) x → IsTimes r c w x
   by_average w ks x s e h =
-      s.by_value _ _ (near_equal (watts w.multiplier (near_from (ap (λ (js : List Point). average (λ (p : Point). p.time) (f r c) w.start (end_in r c w.start) js w.end (end_in r c w.end)) e) h)))
+      rw (value_is r c w) (s.by_value _ _ (near_equal (watts w.multiplier (near_from (ap (λ (js : List Point). average (λ (p : Point). p.time) (f r c) w.start (at_end r c w.start) js w.end (at_end r c w.end)) e) h))))
 
-  middle_between : (w : Window) (earlier : List Point) (p q : Point) (later : List Point) → Steady r → Rises c.points → used_in c ≡ earlier ++ p ∷ q ∷ later
-      → p.time ≤ w.start → w.start < w.end → w.end ≤ q.time → IsTimes r c w ((end_in r c w.start ⊕ end_in r c w.end) ÷ 2)
+  middle_between : (w : Window) (earlier : List Point) (p q : Point) (later : List Point) → Steady r → Rises c.points → used c ≡ earlier ++ p ∷ q ∷ later
+      → p.time ≤ w.start → w.start < w.end → w.end ≤ q.time → IsTimes r c w ((at_end r c w.start ⊕ at_end r c w.end) ÷ 2)
   middle_between w earlier p q later s h e lo lt hi =
       let rises = rises_so r c _ h e in
       let after = rises_after p (q ∷ later) earlier rises in
       by_average w [] _ s
       (ap (inside w.start w.end) e ∙ inside_from p (q ∷ later) w.start w.end lo earlier rises ∙ not_before_end w.start w.end q later hi ∙ none_later w.start w.end q.time later after.1 hi)
-      (half (end_in r c w.start ⊕ end_in r c w.end) (w.end - w.start) (omega arith))
+      (half (at_end r c w.start ⊕ at_end r c w.end) (w.end - w.start) (omega arith))
 
   even_response : (w : Window) (b k : ℤ) (earlier : List Point) (first : Point) (between : List Point) (last : Point) (later : List Point) → Steady r → Rises c.points
-      → used_in c ≡ earlier ++ (first ∷ between ++ last ∷ later) → ChangeEvenly r c b k (first ∷ between ++ last ∷ [])
+      → used c ≡ earlier ++ (first ∷ between ++ last ∷ later) → ChangeEvenly r c b k (first ∷ between ++ last ∷ [])
       → first.time ≤ w.start → w.start < w.end → w.end ≤ last.time → IsTimes r c w ((evenly b k w.start ⊕ evenly b k w.end) ÷ 2)
   even_response w b k earlier first between last later s h e even lo lt hi =
       let rises = rises_so r c _ h e in
@@ -178,10 +179,10 @@ module _ (r : Rounding) (c : Case) where
       let same = ap (inside w.start w.end) e ∙ inside_from first (between ++ last ∷ later) w.start w.end lo earlier rises in
       by_average w kept _ s same
       (average_even b k (λ (p : Point). p.time) (f r c) w.start _ kept w.end _ lt
-      (subst (λ (ks : List Point). Climbs (λ (p : Point). p.time) w.start ks w.end) same (inside_climbs w.start w.end (used_in c) (rises_used r c h) (omega arith)))
+      (subst (λ (ks : List Point). Climbs (λ (p : Point). p.time) w.start ks w.end) same (inside_climbs w.start w.end (used c) (rises_used r c h) (omega arith)))
       (end w.start lo (omega arith)) (even_inside b k (f r c) last later w.start w.end first.time between after hi all.1) (end w.end (omega arith) hi))
 
-  after_last : (w : Window) (earlier : List Point) (last : Point) → Steady r → Rises c.points → used_in c ≡ earlier ++ last ∷ [] → last.time ≤ w.start → w.start < w.end → IsTimes r c w (f r c last)
+  after_last : (w : Window) (earlier : List Point) (last : Point) → Steady r → Rises c.points → used c ≡ earlier ++ last ∷ [] → last.time ≤ w.start → w.start < w.end → IsTimes r c w (f r c last)
   after_last w earlier last s h e le lt =
       let start = equal_near (level_after_last r c earlier last w.start s h e le) in
       let end = equal_near (level_after_last r c earlier last w.end s h e (omega arith)) in
@@ -200,21 +201,21 @@ one_by_one x m = near_same (reads_by 100 (omega arith) (reads-· m reads_self)) 
 
 module _ (c : Case) (first : Point) (later : List Point) (m : ℕ) where
   abbrev g : Point → Fraction
-  g p = response_in unrounded c p
+  g p = compensated unrounded c p
 
   abbrev A : ℕ → ℕ → Fraction
   A s e = area g first.time (g first) later s e
 
-  by_area : (s e : ℕ) → used_in c ≡ first ∷ later → first.time ≤ s → s < e → Near 0 (value_in unrounded c (window s e m) · (e - s)) (A s e · m ÷ 200)
+  by_area : (s e : ℕ) → used c ≡ first ∷ later → first.time ≤ s → s < e → Near 0 (value unrounded c (window s e m) · (e - s)) (A s e · m ÷ 200)
   by_area s e is le lt =
-      near_from (ap (λ (us : List Point). value_of unrounded g us (window s e m) · (e - s)) is ∙ ap (λ (ks : List Point). average (λ (p : Point). p.time) g s (L g first.time (g first) later s) ks e (L g first.time (g first) later e) · m ÷ 100 · (e - s)) (not_after_start s e first later le))
+      near_from (ap (λ (x : Fraction). x · (e - s)) (value_is unrounded c (window s e m)) ∙ ap (λ (us : List Point). averaged unrounded g us (window s e m) · (e - s)) is ∙ ap (λ (ks : List Point). average (λ (p : Point). p.time) g s (L g first.time (g first) later s) ks e (L g first.time (g first) later e) · m ÷ 100 · (e - s)) (not_after_start s e first later le))
       (over_length (A s e) (e - s) m (omega arith))
 
-adjoining : (c : Case) (start middle end multiplier : ℕ) (first : Point) (later : List Point) → Rises c.points → used_in c ≡ first ∷ later → first.time ≤ start → start < middle → middle < end
-    → Equal (value_in unrounded c (window start end multiplier) · (end - start))
-    (value_in unrounded c (window start middle multiplier) · (middle - start) ⊕ value_in unrounded c (window middle end multiplier) · (end - middle))
+adjoining : (c : Case) (start middle end multiplier : ℕ) (first : Point) (later : List Point) → Rises c.points → used c ≡ first ∷ later → first.time ≤ start → start < middle → middle < end
+    → Equal (value unrounded c (window start end multiplier) · (end - start))
+    (value unrounded c (window start middle multiplier) · (middle - start) ⊕ value unrounded c (window middle end multiplier) · (end - middle))
 adjoining c s n e m first later h is le lt lt' =
-    let g = response_in unrounded c in
+    let g = compensated unrounded c in
     let join = areas_join g later first.time (g first) (subst Rises is (rises_used unrounded c h)) s n e le (omega arith) (omega arith) in
     near_equal (near_sym (same_by (same-⊕ (by_area c first later m s n is le lt) (by_area c first later m n e is (omega arith) lt'))
     (same_by (both_watts _ _ m) (same_by (near-÷ 200 (omega arith) (same-· m join)) (near_sym (by_area c first later m s e is le (omega arith)))))))
@@ -225,5 +226,5 @@ values_of_windows = record {
   even_response = even_response;
   after_last = after_last;
   adjoining = adjoining;
-  multiplied = λ c s e m. near_equal (one_by_one _ m);
+  multiplied = λ c s e m. rw (value_is unrounded c (window s e m), value_is unrounded c (window s e 1)) (near_equal (one_by_one _ m));
 }

@@ -1,24 +1,25 @@
 -- What bars a delivery, in whatever order.
 use Rattle.std.specs.Prelude.{◌≡◌, ℕ, ◌⊎◌, List, [], ◌∷◌, Option, Result, MatchResult}
-use Rattle.recording.specs.declared.refusal.Reason.{Reason}
 use Rattle.recording.specs.declared.refusal.Refusal.{Refusal}
 use Rattle.timeline.specs.Checks.{Fault}
+use Rattle.recording.specs.declared.sample.Sample.{Sample}
+use Rattle.disturbance.specs.declared.disturbance.Disturbance.{Disturbance}
 use Rattle.figure.specs.declared.report.Report.{Report}
 use Rattle.figure.specs.Asked.{Asked, Times}
 use Rattle.figure.specs.Defects.{defects}
 
 -- one of the faults applies, and this is its answer
 abbrev pub OneApplies : {A : Type 0} → List (Fault A) → A → Type 0
-OneApplies [] why = ⊥
-OneApplies (f ∷ fs) why = (f.Applies × (why ≡ f.answer)) ⊎ OneApplies fs why
+OneApplies [] answer = ⊥
+OneApplies (f ∷ fs) answer = (f.Applies × (answer ≡ f.answer)) ⊎ OneApplies fs answer
 
--- a defect of what is asked applies, for this reason
-pub record Bars (a : Asked) (why : Reason) : Type 0 where
+-- a defect of what is asked applies, with this refusal
+pub record Bars (xs : List Sample) (d : Disturbance) (a : Asked) (f : Refusal) : Type 0 where
   pub recovery : Option ℕ
   pub trigger_time : Option ℕ
-  pub times : Times a recovery trigger_time
-  pub applies : OneApplies (defects a recovery trigger_time) why
+  pub times : Times xs d a recovery trigger_time
+  pub applies : OneApplies (defects xs d a recovery trigger_time) f
 
--- r is refused exactly where a defect applies, and for one that does
-abbrev pub RefusedExactly : Asked → Result Report Refusal → Type 0
-RefusedExactly a r = MatchResult r (λ report. (why : Reason) → Bars a why → ⊥) (λ f. Bars a f.reason)
+-- r is refused exactly where a defect applies, and with the refusal of one that does
+abbrev pub RefusedExactly : List Sample → Disturbance → Asked → Result Report Refusal → Type 0
+RefusedExactly xs d a r = MatchResult r (λ report. (f : Refusal) → Bars xs d a f → ⊥) (Bars xs d a)

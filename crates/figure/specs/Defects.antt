@@ -1,10 +1,12 @@
 -- What bars a delivery, in the checking order.
-use Rattle.std.specs.Prelude.{◌≡◌, ℕ, ◌-◌, ◌<◌, ◌≤◌, ◌⊎◌, List, [], ◌∷◌, ◌++◌, length, take, ℤ, pos, ◌<ℤ◌, Some, Option, slice_index_or}
+use Rattle.std.specs.Prelude.{◌≡◌, ℕ, ◌-◌, ◌<◌, ◌≤◌, ◌⊎◌, List, [], ◌∷◌, length, ℤ, pos, ◌<ℤ◌, Some, Option, slice_index_or}
 use Rattle.std.specs.Int.{int_max, int_min}
 use Rattle.std.specs.List.{AllByRecursion}
 use Rattle.recording.specs.declared.refusal.Reason.{Reason}
 use Rattle.recording.specs.declared.refusal.Reason.TheVariants.{AmountOutside, OtherDirection, OtherTargets, NoBaseSample, OutsideTargets, NoTriggerTime, EmptyFirstWindow, WindowOutside, WideGap}
+use Rattle.recording.specs.declared.refusal.Refusal.{Refusal}
 use Rattle.recording.specs.declared.sample.Sample.{Sample}
+use Rattle.recording.specs.Refusals.{refusal}
 use Rattle.recording.specs.Samples.{greatest_power}
 use Rattle.timeline.specs.declared.target.Target.{Target}
 use Rattle.timeline.specs.Checks.{Fault}
@@ -14,16 +16,13 @@ use Rattle.disturbance.specs.declared.disturbance.Disturbance.{Disturbance}
 use Rattle.disturbance.specs.declared.direction.Direction.{Direction}
 use Rattle.disturbance.specs.Trace.{at}
 use Rattle.disturbance.specs.Trigger.{Triggered}
-use Rattle.response.specs.declared.base.BaseWindow.{BaseWindow}
 use Rattle.response.specs.declared.service.Side.{Side}
 use Rattle.response.specs.declared.setup.Trigger.{Trigger}
 use Rattle.response.specs.Services.{direction_of}
 use Rattle.figure.specs.declared.point.Point.{Point}
 use Rattle.figure.specs.declared.span.Span.{Span}
-use Rattle.figure.specs.Points.{course}
-use Rattle.figure.specs.Steps.{base_points}
 use Rattle.figure.specs.Windows.{Empty}
-use Rattle.figure.specs.Asked.{Asked, shift_in, first_span, second_span}
+use Rattle.figure.specs.Asked.{Asked, base_samples, targets_of, shift_in, first_span, second_span}
 
 -- the enabled amount is not from 0 to 1,000,000,000 W
 abbrev pub BadAmount : ℤ → Type 0
@@ -75,37 +74,28 @@ pub record Gapped (xs : List Sample) (widest : ℕ) (w : Span) : Type 0 where
 abbrev pub AtShift : Option ℤ → (ℤ → Type 0) → Type 0
 AtShift shift P = (z : ℤ) × (shift ≡ Some z) × P z
 
--- a defect, and the reason that it is refused with
-abbrev pub defect : Type 0 → Reason → Fault Reason
-defect applies why = record { Applies = applies; answer = why }
+-- a defect, and the refusal that it gives: it has no place of its own
+abbrev pub defect : Type 0 → Reason → Fault Refusal
+defect applies why = record { Applies = applies; answer = refusal why 0 0 }
 
--- the defects that ask nothing of recovery and windows
-abbrev pub early_defects : List Sample → Disturbance → BaseWindow → List Target → ℕ → Side → ℤ → List (Fault Reason)
-early_defects xs d base table count side amount =
-    defect (BadAmount amount) AmountOutside
-    ∷ defect (WrongSide side d.direction) OtherDirection
-    ∷ defect (BadTargets count table) OtherTargets
-    ∷ defect (base_points d.time base (course d.direction xs) ≡ []) NoBaseSample
-    ∷ defect (MissedByTargets (take count table) d.time (base_points d.time base (course d.direction xs))) OutsideTargets
-    ∷ []
+module _ (xs : List Sample) (d : Disturbance) (a : Asked) (recovery S : Option ℕ) where
+  -- there is a shift, and at it P holds of the first window, or of either
+  abbrev pub FirstWindow : (Span → Type 0) → Type 0
+  FirstWindow P = AtShift (shift_in d a S) (λ z. P (first_span d a recovery z))
 
--- the defects of two windows on the clock of the record
-abbrev pub span_defects : List Sample → ℕ → Span → Span → List (Fault Reason)
-span_defects xs widest first second =
-    defect (Empty first) EmptyFirstWindow
-    ∷ defect (Beyond xs first ⊎ Beyond xs second) WindowOutside
-    ∷ defect (Gapped xs widest first ⊎ Gapped xs widest second) WideGap
-    ∷ []
+  abbrev pub EitherWindow : (Span → Type 0) → Type 0
+  EitherWindow P = AtShift (shift_in d a S) (λ z. P (first_span d a recovery z) ⊎ P (second_span d a recovery z))
 
--- the same at the shift, where there is one, after that there is none
-abbrev pub window_defects : Asked → Option ℕ → Option ℕ → List (Fault Reason)
-window_defects a recovery S =
-    defect (NeverTriggered a.samples a.disturbance recovery a.trigger) NoTriggerTime
-    ∷ defect (AtShift (shift_in a S) (λ z. Empty (first_span a recovery z))) EmptyFirstWindow
-    ∷ defect (AtShift (shift_in a S) (λ z. Beyond a.samples (first_span a recovery z) ⊎ Beyond a.samples (second_span a recovery z))) WindowOutside
-    ∷ defect (AtShift (shift_in a S) (λ z. Gapped a.samples a.row.widest_gap (first_span a recovery z) ⊎ Gapped a.samples a.row.widest_gap (second_span a recovery z))) WideGap
-    ∷ []
-
--- the defects of a delivery in the checking order
-abbrev pub defects : Asked → Option ℕ → Option ℕ → List (Fault Reason)
-defects a recovery S = early_defects a.samples a.disturbance a.settings.base a.table a.count a.side a.amount ++ window_defects a recovery S
+  -- the defects of a delivery in the checking order
+  abbrev pub defects : List (Fault Refusal)
+  defects =
+      defect (BadAmount a.amount) AmountOutside
+      ∷ defect (WrongSide a.side d.direction) OtherDirection
+      ∷ defect (BadTargets a.count a.table) OtherTargets
+      ∷ defect (base_samples xs d a ≡ []) NoBaseSample
+      ∷ defect (MissedByTargets (targets_of a) d.time (base_samples xs d a)) OutsideTargets
+      ∷ defect (NeverTriggered xs d recovery a.trigger) NoTriggerTime
+      ∷ defect (FirstWindow Empty) EmptyFirstWindow
+      ∷ defect (EitherWindow (Beyond xs)) WindowOutside
+      ∷ defect (EitherWindow (Gapped xs a.row.widest_gap)) WideGap
+      ∷ []

@@ -8,8 +8,8 @@ pub mod Reports
 pub mod Barred
 pub mod Exactness
 pub mod Laws
-pub mod TurningLaws
 pub mod WindowLaws
+pub mod TurningLaws
 pub mod Worked
 pub mod StepLaws
 pub mod AskedLaws

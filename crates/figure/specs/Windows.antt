@@ -1,8 +1,7 @@
 -- Windows on the clock of the record: shifted, and cut at recovery.
 use Rattle.std.specs.Prelude.{ℕ, ◌-◌, ◌*◌, ◌<◌, ◌≤◌, cond, ℤ, pos, ◌+ℤ◌, ◌-ℤ◌, ◌≤ℤ◌, Some, None, Option, int_le}
 use borrow.Author.Differences.{up}
-use Rattle.std.specs.Int.{int_min}
-use Rattle.disturbance.specs.Crossing.{rounded_up}
+use Rattle.std.specs.Int.{int_min, div_ceil}
 use Rattle.response.specs.declared.group.Window.{Window}
 use Rattle.response.specs.declared.setup.Trigger.{Trigger}
 use Rattle.figure.specs.declared.span.Span.{Span}
@@ -15,7 +14,7 @@ ramp_start = 150
 
 -- the whole milliseconds that a dip takes to the trigger at the ramp rate, rounded up
 abbrev pub ramp_time : ℕ → Trigger → ℕ
-ramp_time rate g = rounded_up ((g.dip - ramp_start) * 1000) rate
+ramp_time rate g = div_ceil ((g.dip - ramp_start) * 1000) rate
 
 -- by how much the windows are shifted: 0 without a trigger, none where the trigger time does not exist
 abbrev pub shift_of : ℕ → ℕ → Option Trigger → Option ℕ → Option ℤ

@@ -1,22 +1,15 @@
 // What holds of the figure.
-ghost use Rattle.figure.specs.AskedLaws.{AskedLaws};
+ghost use Rattle.figure.specs.AskedLaws.{FigureIsOfWhatIsAsked};
 ghost use Rattle.figure.specs.Laws.{FigureLaws};
-ghost use Rattle.figure.specs.TurningLaws.{TurningLaws};
 ghost use Rattle.figure.specs.StepLaws.{StepLaws};
 ghost use Rattle.figure.specs.WindowLaws.{WindowLaws};
+ghost use Rattle.figure.specs.TurningLaws.{TurningLaws};
 
 // What the definitions mean; that there is one answer and one exact delivery; that every report is
 // less than one watt from the exact delivery and its verdict fair; and that powers at or after
 // recovery change nothing.
 pub fn figure_laws()
     ensures the_laws_of_the_figure_hold { FigureLaws }
-{}
-
-// Low and high are treated alike: mirror a record about nominal, turn its powers and those of the
-// targets round, and take the other direction and the other side's service. Every answer stays,
-// report and refusal, and so does the exact delivery.
-pub fn turning_laws()
-    ensures low_and_high_alike { TurningLaws }
 {}
 
 // What each step means by the rules: the trajectory and the pushes that it raises, the base, the
@@ -31,8 +24,15 @@ pub fn window_laws()
     ensures windows_mean_their_rules { WindowLaws }
 {}
 
+// Low and high are treated alike: mirror a record about nominal, turn its powers and those of the
+// targets round, and take the other direction and the other side's service. Every answer stays,
+// report and refusal, and so does the exact delivery.
+pub fn turning_laws()
+    ensures low_and_high_alike { TurningLaws }
+{}
+
 // What the steps are worked out from, what a report tells of them, and when the amount, the base and the
 // targets bar a delivery.
 pub fn asked_laws()
-    ensures the_figure_is_that_of_what_is_asked { AskedLaws }
+    ensures the_figure_is_that_of_what_is_asked { FigureIsOfWhatIsAsked }
 {}

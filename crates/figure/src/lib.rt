@@ -4,5 +4,6 @@
 pub mod laws;
 pub mod point;
 pub mod report;
+pub mod request;
 pub mod span;
 pub mod worked;

@@ -2,7 +2,6 @@
 ghost use Rattle.std.specs.Prelude.{Some};
 ghost use Rattle.figure.specs.Verdicts.{word};
 
-use response::service::Service;
 use std::fmt;
 
 // How a delivery stands to the enabled amount: above it, equal to it, or below it.
@@ -35,11 +34,4 @@ pub struct Report {
     pub second: Option<i64>,
     pub delivery: i64,
     pub verdict: Verdict,
-}
-
-// What an owner claims: a service, and the amount that was enabled for it, in W.
-#[derive(Clone, Copy)]
-pub struct Claim {
-    pub service: Service,
-    pub enabled: i64,
 }

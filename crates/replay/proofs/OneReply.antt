@@ -17,15 +17,15 @@ use Rattle.response.specs.declared.settings.Proposal.{Proposal}
 use Rattle.response.specs.declared.settings.Settings.{Settings}
 use Rattle.response.specs.Limits.{IsBase, Granted}
 use Rattle.response.specs.Services.{KnownBy}
-use Rattle.response.specs.Settings.{Allowed, numbers_of, with_base}
+use Rattle.response.specs.Settings.{Allowed, numbers_of}
 use Rattle.response.proofs.Services.{apart as codes_apart}
-use Rattle.response.proofs.Alike.{same_settings}
-use Rattle.figure.specs.declared.report.Claim.{Claim}
+use Rattle.response.proofs.Alike.{same_base, same_settings}
+use Rattle.figure.specs.declared.request.Enablement.{Enablement}
 use Rattle.docket.specs.Dockets.{count_after}
-use Rattle.calls.specs.declared.turn.State.{State}
+use Rattle.docket.specs.declared.docket.State.{State}
 use Rattle.calls.specs.declared.turn.Turn.{Turn}
-use Rattle.calls.specs.Answers.{told, counted}
-use Rattle.calls.specs.Calls.{Meaning, deliver}
+use Rattle.docket.specs.Calls.{Meaning, of_closed, deliver, counted}
+use Rattle.calls.specs.Answers.{told}
 use Rattle.calls.specs.Outcomes.{Does}
 use Rattle.script.specs.declared.command.Choice.{Choice}
 use Rattle.script.specs.declared.command.Command.{Command}
@@ -35,7 +35,7 @@ use Rattle.replay.specs.declared.reply.Reply.{Reply}
 use Rattle.replay.specs.declared.reply.Reply.TheVariants.{Told}
 use Rattle.replay.specs.declared.session.Session.{Session}
 use Rattle.replay.specs.Replies.{replied, granted}
-use Rattle.replay.specs.Plans.{seeks, blank_targets}
+use Rattle.replay.specs.Plans.{asked_under, blank_targets}
 use Rattle.replay.specs.Sessions.{Acts, Changes, Tries, tried_after, OnTargets, OnDocket, Loads, digits_of, settings_in, DeliversBy, Delivers}
 use Rattle.replay.proofs.OneOutcome.{outcome_once, does_once}
 
@@ -102,16 +102,11 @@ changes_once s t a n r q u v h k = (
   },
 )
 
-same_window : (s : Settings) (w z : BaseWindow) → w.begin ≡ z.begin → w.end ≡ z.end → w ≡ z
-same_window s w z b e =
-    let numbers : numbers_of (with_base s w) ≡ numbers_of (with_base s z) = cc in
-    ap (λ x. x.base) (same_settings (with_base s w) (with_base s z) numbers)
-
-tried_once : (s : Settings) (o p : Result BaseWindow Refusal) (begin end : ℕ) (x y : Option BaseWindow) → Granted o (IsBase begin end) (λ w. (w.begin ≡ begin) × (w.end ≡ end)) → Granted p (IsBase begin end) (λ w. (w.begin ≡ begin) × (w.end ≡ end)) → x ≡ y → tried_after o x ≡ tried_after p y
-tried_once s (Ok w) (Ok z) b e x y h k same = ap Some (same_window s w z (h.1.0 ∙ sym k.1.0) (h.1.1 ∙ sym k.1.1))
-tried_once s (Ok w) (Err f) b e x y h k same = absurd (k.0 h.0)
-tried_once s (Err f) (Ok z) b e x y h k same = absurd (h.0 k.0)
-tried_once s (Err f) (Err g) b e x y h k same = same
+tried_once : (o p : Result BaseWindow Refusal) (begin end : ℕ) (x y : Option BaseWindow) → Granted o (IsBase begin end) (λ w. (w.begin ≡ begin) × (w.end ≡ end)) → Granted p (IsBase begin end) (λ w. (w.begin ≡ begin) × (w.end ≡ end)) → x ≡ y → tried_after o x ≡ tried_after p y
+tried_once (Ok w) (Ok z) b e x y h k same = ap Some (same_base w z (h.1.0 ∙ sym k.1.0) (h.1.1 ∙ sym k.1.1))
+tried_once (Ok w) (Err f) b e x y h k same = absurd (k.0 h.0)
+tried_once (Err f) (Ok z) b e x y h k same = absurd (h.0 k.0)
+tried_once (Err f) (Err g) b e x y h k same = same
 
 -- sessions with other windows
 with_trial : (s t : Session) → Alike s t → (x y : Option BaseWindow) → x ≡ y → Alike (record s { trial = x }) (record t { trial = y })
@@ -120,7 +115,7 @@ with_trial s t a x y e = record { table = a.table; state = a.state; settings = a
 tries_once : (s t : Session) → Alike s t → (begin end : ℕ) → Once s t (Tries s begin end) (Tries t begin end)
 tries_once s t a b e r q u v h k = (
   h.reply_is ∙ granted_once h.outcome k.outcome _ _ _ h.within k.within ∙ sym k.reply_is,
-  alike_along _ _ u v (with_trial s t a _ _ (tried_once s.settings h.outcome k.outcome b e s.trial t.trial h.within k.within a.trial)) h.leaves k.leaves,
+  alike_along _ _ u v (with_trial s t a _ _ (tried_once h.outcome k.outcome b e s.trial t.trial h.within k.within a.trial)) h.leaves k.leaves,
 )
 
 -- ---- plans
@@ -166,11 +161,12 @@ loads_once s t a make digits r q u v h k = by (decode_of digits) refl
         let y = k.other none in
         (x.0 ∙ sym y.0, alike_along s t u v a x.1 y.1)
 
-same_claim : (s t : Session) → Alike s t → (claim : Claim) → deliver (seeks (settings_in s.settings s.trial) s.plan claim) ≡ deliver (seeks (settings_in t.settings t.trial) t.plan claim)
-same_claim s t a claim =
-    ap (λ x. deliver (seeks (settings_in x s.trial) s.plan claim)) a.settings
-    ∙ ap (λ x. deliver (seeks (settings_in t.settings x) s.plan claim)) a.trial
-    ∙ ap (λ x. deliver (seeks (settings_in t.settings t.trial) x claim)) a.plan
+same_asked : (s t : Session) → Alike s t → (e : Enablement)
+    → of_closed (deliver (asked_under (settings_in s.settings s.trial) s.plan e)) ≡ of_closed (deliver (asked_under (settings_in t.settings t.trial) t.plan e))
+same_asked s t a e =
+    ap (λ x. of_closed (deliver (asked_under (settings_in x s.trial) s.plan e))) a.settings
+    ∙ ap (λ x. of_closed (deliver (asked_under (settings_in t.settings x) s.plan e))) a.trial
+    ∙ ap (λ x. of_closed (deliver (asked_under (settings_in t.settings t.trial) x e))) a.plan
 
 service_once : (code : List ℕ) (o p : Result Service Refusal) → KnownBy code o → KnownBy code p → o ≡ p
 service_once code (Ok x) (Ok y) h k = ap Ok (codes_apart x y (sym h ∙ k))
@@ -179,7 +175,7 @@ service_once code (Err f) (Ok y) h k = absurd (h.0 y k)
 service_once code (Err f) (Err g) h k = ap Err (h.1 ∙ sym k.1)
 
 delivers_by_once : (s t : Session) → Alike s t → (n : ℤ) (o : Result Service Refusal) → Once s t (DeliversBy s n o) (DeliversBy t n o)
-delivers_by_once s t a n (Ok service) r q u v h k = on_docket_once s t a _ _ (same_claim s t a (record { service = service; enabled = n })) r q u v h k
+delivers_by_once s t a n (Ok service) r q u v h k = on_docket_once s t a _ _ (same_asked s t a (record { service = service; watts = n })) r q u v h k
 delivers_by_once s t a n (Err f) r q u v h k = (h.0 ∙ sym k.0, alike_along s t u v a h.1 k.1)
 
 delivers_once : (s t : Session) → Alike s t → (code : List ℕ) (n : ℤ) → Once s t (Delivers s code n) (Delivers t code n)

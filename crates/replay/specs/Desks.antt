@@ -7,7 +7,8 @@ use Rattle.response.specs.declared.chosen.Rule.{Rule}
 use Rattle.response.specs.Chosen.{triggers_of, weighs_of}
 use Rattle.calls.specs.declared.call.Call.{Call}
 use Rattle.calls.specs.declared.turn.Turn.{Turn}
-use Rattle.calls.specs.Calls.{Meaning, meaning_of}
+use Rattle.docket.specs.Calls.{Meaning}
+use Rattle.calls.specs.Calls.{meaning_of}
 use Rattle.calls.specs.Outcomes.{Does}
 use Rattle.replay.specs.declared.desk.Desk.{Desk}
 use Rattle.replay.specs.declared.reply.Reply.{Reply}

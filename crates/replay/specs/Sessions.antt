@@ -1,5 +1,7 @@
 -- Sessions, and what a line does in one.
 use Rattle.std.specs.Prelude.{◌≡◌, ◌≢◌, ℕ, List, [], Some, None, Ok, Err, Option, Result, OnErr, ℤ}
+use Rattle.std.specs.Option.{option_or}
+use Rattle.std.specs.Result.{result_ok}
 use Rattle.std.specs.Borrow.{Bor}
 use Rattle.hex.specs.Hex.{decode_of}
 use Rattle.recording.specs.declared.makes.Make.{Make}
@@ -16,10 +18,10 @@ use Rattle.response.specs.declared.settings.Settings.{Settings}
 use Rattle.response.specs.Limits.{IsBase, Granted}
 use Rattle.response.specs.Services.{KnownBy}
 use Rattle.response.specs.Settings.{Allowed, numbers_of, plain_numbers, with_base}
-use Rattle.figure.specs.declared.report.Claim.{Claim}
+use Rattle.figure.specs.declared.request.Enablement.{Enablement}
 use Rattle.docket.specs.Dockets.{count_after}
-use Rattle.calls.specs.Answers.{told, counted}
-use Rattle.calls.specs.Calls.{Meaning, put, load, amend, strike, close, deliver, reopen}
+use Rattle.docket.specs.Calls.{Meaning, of_open, of_closed, put, load, amend, strike, close, deliver, reopen, counted}
+use Rattle.calls.specs.Answers.{told}
 use Rattle.calls.specs.Outcomes.{open_with}
 use Rattle.script.specs.declared.command.Command.{Command}
 use Rattle.script.specs.declared.command.Command.TheVariants as command
@@ -27,7 +29,7 @@ use Rattle.replay.specs.declared.reply.Reply.{Reply}
 use Rattle.replay.specs.declared.reply.Reply.TheVariants.{Told, Done, NoCall}
 use Rattle.replay.specs.declared.session.Session.{Session}
 use Rattle.replay.specs.Replies.{refused, granted}
-use Rattle.replay.specs.Plans.{blank_targets, empty_plan, seeks}
+use Rattle.replay.specs.Plans.{blank_targets, empty_plan, asked_under}
 use Rattle.replay.specs.Desks.{blank_table, Called}
 
 -- ---- a new session
@@ -62,8 +64,7 @@ pub record Changes (s : Session) (p : Proposal) (reply : Reply) (t : Session) : 
 
 -- the window that is tried after a trial is asked for
 abbrev pub tried_after : Result BaseWindow Refusal → Option BaseWindow → Option BaseWindow
-tried_after (Ok w) old = Some w
-tried_after (Err f) old = old
+tried_after outcome old = option_or (result_ok outcome) old
 
 pub record Tries (s : Session) (begin end : ℕ) (reply : Reply) (t : Session) : Type 0 where
   pub outcome : Result BaseWindow Refusal
@@ -86,7 +87,7 @@ digits_of None = []
 digits_of (Some text) = text.now
 
 pub record Loads (s : Session) (make : Make) (digits : List ℕ) (reply : Reply) (t : Session) : Type 0 where
-  pub written : (bytes : List ℕ) (ms : List Member) → decode_of digits ≡ Ok bytes → Recorded make bytes ms → OnDocket s (load ms) reply t
+  pub written : (bytes : List ℕ) (ms : List Member) → decode_of digits ≡ Ok bytes → Recorded make bytes ms → OnDocket s (of_open (load ms)) reply t
   pub other : ((bytes : List ℕ) → decode_of digits ≢ Ok bytes) → (reply ≡ NoCall) × (t ≡ s)
 
 -- the settings of a delivery: with the window that is tried, if one is
@@ -94,18 +95,18 @@ abbrev pub settings_in : Settings → Option BaseWindow → Settings
 settings_in settings None = settings
 settings_in settings (Some w) = with_base settings w
 
-abbrev pub Claims : Session → Claim → Reply → Session → Type 0
-Claims s claim = OnDocket s (deliver (seeks (settings_in s.settings s.trial) s.plan claim))
+abbrev pub DeliversFor : Session → Enablement → Reply → Session → Type 0
+DeliversFor s enablement = OnDocket s (of_closed (deliver (asked_under (settings_in s.settings s.trial) s.plan enablement)))
 
 -- deliver of the service with a code; a text that is no code is refused
 abbrev pub DeliversBy : Session → ℤ → Result Service Refusal → Reply → Session → Type 0
-DeliversBy s enabled (Ok service) reply t = Claims s (record { service = service; enabled = enabled }) reply t
-DeliversBy s enabled (Err f) reply t = (reply ≡ refused f) × (t ≡ s)
+DeliversBy s watts (Ok service) reply t = DeliversFor s (record { service = service; watts = watts }) reply t
+DeliversBy s watts (Err f) reply t = (reply ≡ refused f) × (t ≡ s)
 
-pub record Delivers (s : Session) (code : List ℕ) (enabled : ℤ) (reply : Reply) (t : Session) : Type 0 where
+pub record Delivers (s : Session) (code : List ℕ) (watts : ℤ) (reply : Reply) (t : Session) : Type 0 where
   pub service : Result Service Refusal
   pub known : KnownBy code service
-  pub by : DeliversBy s enabled service reply t
+  pub by : DeliversBy s watts service reply t
 
 -- ---- a line's command has this reply, and leaves this session
 abbrev pub Acts : Session → Command → Reply → Session → Type 0
@@ -119,13 +120,13 @@ Acts s (command.TargetPut x) reply t = OnTargets (Puts targets s.plan.count s.pl
 Acts s (command.TargetAmend i x) reply t = OnTargets (Amends targets s.plan.count s.plan.targets i x) s reply t
 Acts s (command.TargetStrike i) reply t = OnTargets (Strikes targets s.plan.count s.plan.targets i) s reply t
 Acts s (command.Rule choice) reply t = (reply ≡ Done) × (t ≡ record s { plan = record (s.plan) { rule = choice } })
-Acts s (command.Put r) reply t = OnDocket s (put r) reply t
-Acts s (command.Amend i r) reply t = OnDocket s (amend i r) reply t
+Acts s (command.Put r) reply t = OnDocket s (of_open (put r)) reply t
+Acts s (command.Amend i r) reply t = OnDocket s (of_open (amend i r)) reply t
 Acts s (command.Load make digits) reply t = Loads s make (digits_of digits) reply t
-Acts s (command.Strike i) reply t = OnDocket s (strike i) reply t
-Acts s command.Close reply t = OnDocket s close reply t
+Acts s (command.Strike i) reply t = OnDocket s (of_open (strike i)) reply t
+Acts s command.Close reply t = OnDocket s (of_open close) reply t
 Acts s (command.Deliver code enabled) reply t = Delivers s code.now enabled reply t
-Acts s command.Reopen reply t = OnDocket s reopen reply t
+Acts s command.Reopen reply t = OnDocket s (of_closed reopen) reply t
 
 -- ---- trials
 -- a line that does not ask for other settings leaves them as they were: whichever window a delivery tries, and however the delivery ends, the former window is put back

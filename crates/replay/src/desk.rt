@@ -2,18 +2,17 @@
 ghost use Rattle.std.specs.Prelude.{◌≡◌, ℕ, List, IfOk, length, replicate};
 ghost use Rattle.recording.specs.declared.interface.Member.{Member as Item};
 ghost use Rattle.recording.specs.Makes.{Recorded};
-ghost use Rattle.calls.specs.Calls.{load, deliver};
+ghost use Rattle.docket.specs.Calls.{of_open, of_closed, load, deliver};
 ghost use Rattle.calls.specs.Outcomes.{open_with};
-ghost use Rattle.replay.specs.Plans.{seeks};
+ghost use Rattle.replay.specs.Plans.{asked_under};
 ghost use Rattle.replay.specs.Desks.{meant, Called, blank_table};
 
 use crate::plan::Plan;
 use crate::reply::Reply;
 use calls::call::Call;
-use calls::turn::State;
-use docket::docket::OpenDocket;
-use docket::request::Request;
-use figure::report::Claim;
+use calls::turn::take;
+use docket::docket::{OpenDocket, State};
+use figure::request::{Enablement, Request};
 use recording::makes::{ByteRecording, Make};
 use recording::sample::Sample;
 use response::chosen::Rule;
@@ -69,22 +68,28 @@ impl Desk {
         ensures { Called self.old (meant call.entry) result self.new }
     {
         let state = mem::replace(&mut self.state, State::Open(OpenDocket::new()));
-        let turn = state.take(self.table.as_mut_slice(), call);
+        let turn = take(state, self.table.as_mut_slice(), call);
         self.state = turn.state;
         turn.answer.into()
     }
 
     // Loads the recording that bytes make.
     pub(crate) fn load(&mut self, make: Make, bytes: &[u8]) -> Reply
-        ensures { (ms : List Item) → Recorded make bytes.now ms → Called self.old (load ms) result self.new }
+        ensures { (ms : List Item) → Recorded make bytes.now ms → Called self.old (of_open (load ms)) result self.new }
     {
         let recording = ByteRecording::new(make, bytes);
         self.call(Call::Load(&recording))
     }
 
-    // Delivers what is claimed, with settings and a plan.
-    pub(crate) fn deliver(&mut self, settings: &Settings, plan: &Plan, claim: Claim) -> Reply
-        ensures { Called self.old (deliver (seeks settings.now plan.now claim)) result self.new }
+    // Delivers for what is enabled, with settings and a plan.
+    pub(crate) fn deliver(
+        &mut self,
+        settings: &Settings,
+        plan: &Plan,
+        enablement: Enablement,
+    ) -> Reply
+        ensures { Called self.old (of_closed (deliver (asked_under settings.now plan.now enablement)))
+            result self.new }
     {
         let rule = plan.rule_by(settings);
         self.call(Call::Deliver(Request {
@@ -92,7 +97,7 @@ impl Desk {
             rule: &rule,
             targets: &plan.targets,
             count: plan.count,
-            claim,
+            enablement,
         }))
     }
 }

@@ -1,12 +1,12 @@
 // A session: a docket with its table, and what deliveries are made with.
 ghost use Rattle.std.specs.Prelude.{◌≡◌, None, IfOk};
-ghost use Rattle.replay.specs.Sessions.{Fresh, Acts, PutsBack, Tries, Loads, digits_of, Delivers, Claims};
+ghost use Rattle.replay.specs.Sessions.{Fresh, Acts, PutsBack, Tries, Loads, digits_of, Delivers, DeliversFor};
 
 use crate::desk::Desk;
 use crate::plan::Plan;
 use crate::reply::Reply;
 use calls::call::Call;
-use figure::report::Claim;
+use figure::request::Enablement;
 use hex::FromHexError;
 use recording::makes::Make;
 use response::base::BaseWindow;
@@ -65,7 +65,7 @@ impl Session {
             Command::Load(make, digits) => self.load(heap, make, digits)?,
             Command::Strike(place) => self.desk.call(Call::Strike(place)),
             Command::Close => self.desk.call(Call::Close),
-            Command::Deliver(code, enabled) => self.deliver(code, enabled),
+            Command::Deliver(code, watts) => self.deliver(code, watts),
             Command::Reopen => self.desk.call(Call::Reopen),
         })
     }
@@ -105,23 +105,23 @@ impl Session {
     }
 
     // Delivers the service with a code. A text that is no code is refused.
-    fn deliver(&mut self, code: &str, enabled: i64) -> Reply
-        ensures { Delivers self.old code.now enabled result self.new }
+    fn deliver(&mut self, code: &str, watts: i64) -> Reply
+        ensures { Delivers self.old code.now watts result self.new }
     {
         match Service::from_code(code) {
-            Ok(service) => self.deliver_claim(Claim { service, enabled }),
+            Ok(service) => self.deliver_for(Enablement { service, watts }),
             Err(refusal) => refusal.into(),
         }
     }
 
-    // Delivers a claim, in a trial while a window is tried.
-    fn deliver_claim(&mut self, claim: Claim) -> Reply
-        ensures { Claims self.old claim result self.new }
+    // Delivers for what is enabled, in a trial while a window is tried.
+    fn deliver_for(&mut self, enablement: Enablement) -> Reply
+        ensures { DeliversFor self.old enablement result self.new }
     {
         let Some(window) = self.trial else {
-            return self.desk.deliver(&self.settings, &self.plan, claim);
+            return self.desk.deliver(&self.settings, &self.plan, enablement);
         };
         let trial = Trial::begin(&mut self.settings, window);
-        self.desk.deliver(trial.settings(), &self.plan, claim)
+        self.desk.deliver(trial.settings(), &self.plan, enablement)
     }
 }

@@ -9,7 +9,7 @@ use Rattle.response.specs.declared.settings.Settings.{Settings}
 use Rattle.response.specs.declared.variable.Variable.{Variable}
 use Rattle.response.specs.Settings.{numbers_of, plain_numbers}
 use Rattle.response.specs.VariableRule.{factor_of}
-use Rattle.docket.specs.Requests.{Sought}
+use Rattle.figure.specs.Asked.{Asked}
 use Rattle.report.specs.declared.settlement.Delivery.{Delivery}
 use Rattle.report.specs.Settlements.{bare, Settles}
 use Rattle.report.specs.Texts.{outcome_text}
@@ -22,8 +22,8 @@ places = 4096
 abbrev pub variable_of : Settings → Variable
 variable_of s = record { response = s.response; rate = s.response.rate }
 
--- what is sought under settings and that rule
-abbrev pub variably : Settings → Service → Sought
+-- what is asked under settings and that rule
+abbrev pub variably : Settings → Service → Asked
 variably s = bare s None (factor_of (variable_of s))
 
 -- the text of what a docket delivers of the members that the bytes make, under the plain settings, with no targets and nothing enabled

@@ -3,16 +3,17 @@ ghost use Rattle.std.specs.Prelude.{◌≡◌, ◌<◌, List, length, map, slice
 ghost use Rattle.std.specs.List.{All};
 ghost use Rattle.recording.specs.declared.refusal.Refusal.{Refusal as SentBack};
 ghost use Rattle.timeline.specs.Timelines.{over};
-ghost use Rattle.calls.specs.Answers.{told, reported};
-ghost use Rattle.calls.specs.Calls.{meaning_of, deliver};
+ghost use Rattle.docket.specs.Calls.{of_closed, deliver, reported};
+ghost use Rattle.calls.specs.Answers.{told};
+ghost use Rattle.calls.specs.Calls.{meaning_of};
 ghost use Rattle.report.specs.declared.settlement.Delivery.{Delivery as Settled};
 ghost use Rattle.report.specs.Settlements.{services, bare, in_turn, taken, OfDelivery, Settles};
 
 use calls::answer::Answer;
 use calls::call::Call;
 use calls::run::run;
-use docket::request::Request;
-use figure::report::{Claim, Report};
+use figure::report::Report;
+use figure::request::{Enablement, Request};
 use recording::interface::Recording;
 use recording::refusal::Refusal;
 use recording::sample::Sample;
@@ -37,18 +38,16 @@ fn delivering<'a, R: Recording, P: ResponseRule>(
     service: Service,
 ) -> Call<'a, R, P>
     ensures { meaning_of R.meaning P.ResponseRule.triggers P.ResponseRule.weighs result
-        ≡ deliver (bare settings.now (P.ResponseRule.triggers rule.now) (P.ResponseRule.weighs rule.now) service) }
+        ≡ of_closed (deliver
+        (bare settings.now (P.ResponseRule.triggers rule.now) (P.ResponseRule.weighs rule.now) service)) }
 {
-    let claim = Claim {
-        service,
-        enabled: 0,
-    };
+    let enablement = Enablement { service, watts: 0 };
     Call::Deliver(Request {
         settings,
         rule,
         targets: &[],
         count: 0,
-        claim,
+        enablement,
     })
 }
 

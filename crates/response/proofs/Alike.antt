@@ -19,7 +19,7 @@ same_rate r s e = alike IsRate (λ n h. record { mhz_per_s = n; within = h }) (�
 same_trigger : (g h : Trigger) → g.dip ≡ h.dip → g ≡ h
 same_trigger g h e = alike IsTrigger (λ n h. record { dip = n; within = h }) (λ n. hlevel le_prop) g.dip h.dip e g.within h.within
 
-same_base : (v w : BaseWindow) → v.begin ≡ w.begin → v.end ≡ w.end → v ≡ w
+pub same_base : (v w : BaseWindow) → v.begin ≡ w.begin → v.end ≡ w.end → v ≡ w
 same_base v w b e =
     let all : ◌≡◌ {A = ℕ × ℕ} (v.begin, v.end) (w.begin, w.end) = ap (λ x. (x, v.end)) b ∙ ap (λ y. (w.begin, y)) e in
     alike (λ (x : ℕ × ℕ). IsBase x.0 x.1) (λ x h. record { begin = x.0; end = x.1; within = h }) (λ x. hlevel le_prop) (v.begin, v.end) (w.begin, w.end) all v.within w.within

@@ -1,30 +1,31 @@
 -- The first fault of a checking order, by tests that tell.
-use Rattle.std.proofs.Common.{◌≡◌, ℕ, Bool, true, false, cond, ◌⊎◌, List, [], ◌∷◌, ◌++◌, Some, None, Ok, Err, is_ok, Decides, Option, Result, MatchResult, sym, refl, ap, ◌∙◌, inl, inr, arith}
+use Rattle.std.proofs.Common.{◌≡◌, ℕ, Bool, true, false, cond, ◌⊎◌, List, [], ◌∷◌, ◌++◌, map, Some, None, Ok, Err, is_ok, Decides, Option, Result, MatchResult, sym, refl, ap, ◌∙◌, inl, inr, arith}
 use Rattle.std.proofs.lemmas.Bool.Decides.{not_from_Decides}
-use Rattle.timeline.specs.Checks.{Fault, FirstFault, Check, IsFirst, TheFirst, first_of, unless, Allows}
+use Rattle.timeline.specs.Checks.{Fault, FirstFault, Check, fault_of, TheFirst, first_of, unless, Allows}
+
+-- there is one first fault
+pub first_fault_once : {A : Type 0} (fs : List (Fault A)) (r s : Option A) → FirstFault fs r → FirstFault fs s → s ≡ r
+first_fault_once [] r s p q = q ∙ sym p
+first_fault_once (f ∷ fs) r s (inl p) (inl q) = q.1 ∙ sym p.1
+first_fault_once (f ∷ fs) r s (inl p) (inr q) = absurd (q.0 p.0)
+first_fault_once (f ∷ fs) r s (inr p) (inl q) = absurd (p.0 q.0)
+first_fault_once (f ∷ fs) r s (inr p) (inr q) = first_fault_once fs r s p.1 q.1
 
 -- each test tells whether its fault applies
 abbrev pub Told : {A : Type 0} → List (Check A) → Type 0
 Told [] = Unit {0}
 Told (c ∷ cs) = Decides c.test c.Applies × Told cs
 
-first_by : {A : Type 0} (c : Check A) (cs : List (Check A)) (b : Bool) → Decides b c.Applies → IsFirst cs (first_of cs) → IsFirst (c ∷ cs) (cond b (Some c.answer) (first_of cs))
+first_by : {A : Type 0} (c : Check A) (cs : List (Check A)) (b : Bool) → Decides b c.Applies → FirstFault (map fault_of cs) (first_of cs) → FirstFault (map fault_of (c ∷ cs)) (cond b (Some c.answer) (first_of cs))
 first_by c cs true d rest = inl (d.0 refl, refl)
 first_by c cs false d rest = inr (not_from_Decides false d refl, rest)
 
-first_is : {A : Type 0} (cs : List (Check A)) → Told cs → IsFirst cs (first_of cs)
+first_is : {A : Type 0} (cs : List (Check A)) → Told cs → FirstFault (map fault_of cs) (first_of cs)
 first_is [] t = refl
 first_is (c ∷ cs) t = first_by c cs c.test t.0 (first_is cs t.1)
 
-first_once : {A : Type 0} (cs : List (Check A)) (r s : Option A) → IsFirst cs r → IsFirst cs s → s ≡ r
-first_once [] r s p q = q ∙ sym p
-first_once (c ∷ cs) r s (inl p) (inl q) = q.1 ∙ sym p.1
-first_once (c ∷ cs) r s (inl p) (inr q) = absurd (q.0 p.0)
-first_once (c ∷ cs) r s (inr p) (inl q) = absurd (p.0 q.0)
-first_once (c ∷ cs) r s (inr p) (inr q) = first_once cs r s p.1 q.1
-
 pub the_first : {A : Type 0} (cs : List (Check A)) → Told cs → TheFirst cs (first_of cs)
-the_first cs t = record { is = first_is cs t; only = λ s p. first_once cs (first_of cs) s (first_is cs t) p }
+the_first cs t = record { is = first_is cs t; only = λ s p. first_fault_once (map fault_of cs) (first_of cs) s (first_is cs t) p }
 
 -- no test found its fault
 abbrev pub NoneFound : {A : Type 0} → List (Check A) → Type 0
@@ -66,15 +67,7 @@ done_as cs ds value (Err why) e t a =
     let some : first_of ds ≡ Some why = sym e ∙ err_some (first_of cs) value why a.answer in
     record { first = the_first ds t; answer = ap (λ o. unless o (tt {0})) (sym some) }
 
--- ---- faults with no test beside them
--- there is one first fault
-pub first_fault_once : {A : Type 0} (fs : List (Fault A)) (r s : Option A) → FirstFault fs r → FirstFault fs s → s ≡ r
-first_fault_once [] r s p q = q ∙ sym p
-first_fault_once (f ∷ fs) r s (inl p) (inl q) = q.1 ∙ sym p.1
-first_fault_once (f ∷ fs) r s (inl p) (inr q) = absurd (q.0 p.0)
-first_fault_once (f ∷ fs) r s (inr p) (inl q) = absurd (p.0 q.0)
-first_fault_once (f ∷ fs) r s (inr p) (inr q) = first_fault_once fs r s p.1 q.1
-
+-- ---- faults in turn
 -- one fault for another that applies exactly if it does, and what follows for what follows
 pub fault_over : {A B W F G : Type 0} → (A → B) → (B → A) → (F → G) → (A × W) ⊎ ((A → ⊥) × F) → (B × W) ⊎ ((B → ⊥) × G)
 fault_over to from rest (inl f) = inl (to f.0, f.1)

@@ -1,21 +1,30 @@
 -- A checking order: faults in turn, of which the first that applies gives the answer.
-use Rattle.std.specs.Prelude.{◌≡◌, Bool, cond, ◌⊎◌, List, [], ◌∷◌, Some, None, Ok, Err, Option, Result}
+use Rattle.std.specs.Prelude.{◌≡◌, Bool, cond, ◌⊎◌, List, [], ◌∷◌, map, Some, None, Ok, Err, Option, Result}
 
--- a fault: when it applies, the test that tells, and the answer that it gives
+-- a fault: when it applies, and the answer that it gives
+pub record Fault (A : Type 0) : Type 1 where
+  pub Applies : Type 0
+  pub answer : A
+
+-- r is the answer of the first fault that applies, or none where none does
+abbrev pub FirstFault : {A : Type 0} → List (Fault A) → Option A → Type 0
+FirstFault [] r = r ≡ None
+FirstFault (f ∷ fs) r = (f.Applies × (r ≡ Some f.answer)) ⊎ ((f.Applies → ⊥) × FirstFault fs r)
+
+-- a check: a fault, and the test that tells whether it applies
 pub record Check (A : Type 0) : Type 1 where
   pub Applies : Type 0
   pub test : Bool
   pub answer : A
 
--- r is the answer of the first fault that applies, or none where none does
-abbrev pub IsFirst : {A : Type 0} → List (Check A) → Option A → Type 0
-IsFirst [] r = r ≡ None
-IsFirst (c ∷ cs) r = (c.Applies × (r ≡ Some c.answer)) ⊎ ((c.Applies → ⊥) × IsFirst cs r)
+-- the fault of a check, without its test
+abbrev pub fault_of : {A : Type 0} → Check A → Fault A
+fault_of c = record { Applies = c.Applies; answer = c.answer }
 
--- r is that answer, and there is no other
+-- r is the answer of the first check whose fault applies, or none where none does, and there is no other
 pub record TheFirst {A : Type 0} (cs : List (Check A)) (r : Option A) : Type 0 where
-  pub is : IsFirst cs r
-  pub only : (s : Option A) → IsFirst cs s → s ≡ r
+  pub is : FirstFault (map fault_of cs) r
+  pub only : (s : Option A) → FirstFault (map fault_of cs) s → s ≡ r
 
 -- that answer, by the tests
 abbrev pub first_of : {A : Type 0} → List (Check A) → Option A
@@ -31,13 +40,3 @@ unless (Some why) value = Err why
 pub record Allows {A F : Type 0} (cs : List (Check F)) (value : A) (r : Result A F) : Type 0 where
   pub first : TheFirst cs (first_of cs)
   pub answer : r ≡ unless (first_of cs) value
-
--- a fault with no test beside it: when it applies, and the answer that it gives
-pub record Fault (A : Type 0) : Type 1 where
-  pub Applies : Type 0
-  pub answer : A
-
--- r is the answer of the first such fault that applies, or none where none does
-abbrev pub FirstFault : {A : Type 0} → List (Fault A) → Option A → Type 0
-FirstFault [] r = r ≡ None
-FirstFault (f ∷ fs) r = (f.Applies × (r ≡ Some f.answer)) ⊎ ((f.Applies → ⊥) × FirstFault fs r)

@@ -1,10 +1,15 @@
--- A docket that closes, or is handed back, is the accepted record's.
-use Rattle.std.proofs.Common.{subst}
-use Rattle.calls.proofs.Taking.{ClosesTo, closed_on, kept_open}
+-- A close is a step of the accepted record, as the docket says.
+use Rattle.std.proofs.Common.{Ok, refl, subst}
+use Rattle.docket.specs.declared.docket.State.TheVariants.{Open}
+use Rattle.docket.specs.Calls.{of_open, close, closed_on}
+use Rattle.docket.specs.Dockets.{Follows, close_says, after_close}
 use Rattle.calls.proofs.turn.close_turn.Goals as goal
 
 pub returns-in-Ok-clause-answers_as_the_accepted_record : goal.returns-in-Ok-clause-answers_as_the_accepted_record
-returns-in-Ok-clause-answers_as_the_accepted_record c = rw c.disturbance.ensures.the_disturbance_it_was_closed_on (closed_on c.args.table.now c.args.docket c.in-Ok.docket (subst (ClosesTo c.args.table.now c.args.docket) c.in-Ok.is c.close.ensures.history_grows_by_this_close))
+returns-in-Ok-clause-answers_as_the_accepted_record c =
+    rw c.disturbance.ensures.the_disturbance_it_was_closed_on
+    (closed_on (Ok c.in-Ok.docket.disturbance), refl, subst (λ r. Follows (Open c.args.docket) c.args.table.now (of_open close) (closed_on (close_says r)) (after_close r) c.args.table.now) c.in-Ok.is c.close.ensures.history_grows_by_this_close)
 
 pub returns-in-Err-clause-answers_as_the_accepted_record : goal.returns-in-Err-clause-answers_as_the_accepted_record
-returns-in-Err-clause-answers_as_the_accepted_record c = kept_open c.args.table.now c.args.docket _ (subst (ClosesTo c.args.table.now c.args.docket) c.in-Err.is c.close.ensures.history_grows_by_this_close)
+returns-in-Err-clause-answers_as_the_accepted_record c =
+    (closed_on _, refl, subst (λ r. Follows (Open c.args.docket) c.args.table.now (of_open close) (closed_on (close_says r)) (after_close r) c.args.table.now) c.in-Err.is c.close.ensures.history_grows_by_this_close)

@@ -8,6 +8,7 @@ use Rattle.exact.specs.Limits.{Within}
 use Rattle.exact.proofs.Limits.{within--, within-*, within_fits, within_more, half_up_within}
 use Rattle.exact.proofs.Wholes.{half_up_straight, straight_within}
 use Rattle.delivery.proofs.Held.{held}
+use Rattle.delivery.specs.Limits.{widest_dividend, widest_response}
 use Rattle.delivery.proofs.rounding.straight_half_up.Goals as goal
 
 -- a number as the code holds it
@@ -29,11 +30,11 @@ record Fit (t s u : ℕ) (v w : ℤ) : Type 0 where
   second_fits : SFits w128 (second t u v w)
   top_fits : SFits w128 (top t s u v w)
   is : kept (top t s u v w) ≡ v *ℤ pos (s - t) +ℤ (w -ℤ v) *ℤ pos (u - t)
-  limit : Within (2 ^ 110) (kept (top t s u v w))
+  limit : Within widest_dividend (kept (top t s u v w))
 
-fit : {t s u : ℕ} {v w : ℤ} → (t < s) × ((t ≤ u) × ((u ≤ s) × (Within (2 ^ 42) v × Within (2 ^ 42) w))) → s < 2 ^ 32 → Fit t s u v w
+fit : {t s u : ℕ} {v w : ℤ} → (t < s) × ((t ≤ u) × ((u ≤ s) × (Within widest_response v × Within widest_response w))) → s < 2 ^ 32 → Fit t s u v w
 fit {t} {s} {u} {v} {w} (lt, (le, (le', (hv, hw)))) small =
-    let l = within_more {B = 2 ^ 110} (omega arith) (straight_within (2 ^ 42) t s u v w le le' hv hw) in
+    let l = within_more {B = widest_dividend} (omega arith) (straight_within widest_response t s u v w le le' hv hw) in
     let left = within_fits {z = v} (omega arith) hv in
     let right = within_fits {z = w} (omega arith) hw in
     let rise = within_fits {z = w -ℤ v} (omega arith) (within-- hw hv) in
@@ -61,5 +62,5 @@ returns c =
     let e = c.half_up.ensures ∙ ap (λ (n : ℤ). half_up (frac n (c.args.s - c.args.t))) (fit c.requires (omega arith)).is in
     let within : (A : ℕ) → Within A c.args.v → Within A c.args.w → Within A c.half_up.result =
     λ A hv hw. subst (Within A) (sym e) (half_up_within A (c.args.s - c.args.t) _ (omega arith) (straight_within A c.args.t c.args.s c.args.u c.args.v c.args.w c.requires.1.0 c.requires.1.1.0 hv hw)) in
-    let r = held {A = 2 ^ 42} (omega arith) e (within (2 ^ 42) c.requires.1.1.1.0 c.requires.1.1.1.1) in
+    let r = held {A = widest_response} (omega arith) e (within widest_response c.requires.1.1.1.0 c.requires.1.1.1.1) in
     record { is = r.is ∙ sym (half_up_straight c.args.t c.args.s c.args.u c.args.v c.args.w c.requires.0); within = λ A hv hw. subst (Within A) (sym (r.is ∙ sym e)) (within A hv hw) }

@@ -18,4 +18,4 @@ overflow_cast-result g c = (valued (fit c.requires.0.times (omega (arith, c.requ
 pub returns : goal.returns
 returns g c =
     ap whole (valued (fit c.requires.0.times (omega (arith, c.requires.0.rises)) (omega arith) c.area-sum.ensures.within) c.half_up.ensures).is
-    ∙ value_is (compensated_z (g.R.ResponseRule.weighs c.args.rule.now) c.args.basis.disturbance c.args.basis.base) (course c.args.direction c.args.trace.samples.now) c.args.window c.requires.0.rises c.area-sum.result c.area-sum.ensures.is
+    ∙ value_is (compensated_z (g.R.ResponseRule.weighs c.args.rule.now) c.args.basis) (course c.args.direction c.args.trace.samples.now) c.args.window c.requires.0.rises c.area-sum.result c.area-sum.ensures.is

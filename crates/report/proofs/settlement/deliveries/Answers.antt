@@ -1,5 +1,6 @@
 -- Six answers are told as six deliveries.
-use Rattle.calls.specs.Answers.{told, reported}
+use Rattle.docket.specs.Calls.{reported}
+use Rattle.calls.specs.Answers.{told}
 use Rattle.report.proofs.Settlements.{six_places}
 use Rattle.report.proofs.settlement.deliveries.Goals as goal
 
