@@ -1,4 +1,4 @@
-// What a call answers.
+//! The answers of calls.
 ghost use Rattle.std.specs.Prelude.{◌≡◌};
 ghost use Rattle.docket.specs.Calls.{counted, reported};
 ghost use Rattle.calls.specs.Answers.{told};
@@ -7,14 +7,18 @@ use disturbance::disturbance::Disturbance;
 use figure::report::Report;
 use recording::refusal::Refusal;
 
-// A count of samples, the disturbance that a docket is closed on, a report, a docket opened again, or a
-// refusal.
+/// The answer of one call.
 #[derive(Clone, Copy, Debug, PartialEq, Eq)]
 pub enum Answer {
+    /// The count of samples, from put, load, amend and strike.
     Counted(usize),
+    /// The disturbance, from close.
     Closed(Disturbance),
+    /// The report, from deliver.
     Reported(Report),
+    /// From reopen, which is never refused.
     Reopened,
+    /// The refusal, from any call but reopen.
     Refused(Refusal),
 }
 

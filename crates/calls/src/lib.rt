@@ -1,4 +1,6 @@
-// Calls on one docket and its table: one at a time, and any list of them from new.
+//! Calls on a docket in either state, and lists of calls on a new docket.
+//! For programs that choose their calls at run time. docs/RULES.md states the rules under Lists of
+//! calls.
 #![tactic(auto)]
 
 pub mod answer;

@@ -1,4 +1,4 @@
-// A list of calls on one docket and its table, from new.
+//! A list of calls on a new docket and one table.
 ghost use Rattle.std.specs.Prelude.{◌≡◌, ℕ, List, length, map, Result as Either};
 ghost use Rattle.recording.specs.declared.sample.Sample.{Sample as Taken};
 ghost use Rattle.calls.specs.declared.answer.Answer.{Answer as Told};
@@ -15,14 +15,17 @@ use recording::interface::Recording;
 use recording::sample::Sample;
 use response::rule::ResponseRule;
 
-// The place of a call that the docket does not offer in its state. The calls before it are answered.
+/// A list of calls ended at a call that the docket's state does not allow. The calls before it have
+/// their answers.
 #[derive(Clone, Copy, Debug, PartialEq, Eq)]
 pub struct NotOffered {
+    /// The place of that call in the list, counted from 0.
     pub place: usize,
 }
 
-// Runs calls on a new docket and a table, as many as there are places for their answers, and tells how
-// many were answered. A call that the docket does not offer ends the run.
+/// Runs calls on a new docket and a table, at most one for each place in `answers`, and returns
+/// how many were answered. Each answer is written at its call's place. A call that the docket's
+/// state does not allow ends the run.
 pub fn run<R: Recording, P: ResponseRule>(
     table: &mut [Sample],
     calls: &[Call<'_, R, P>],
@@ -45,7 +48,7 @@ pub fn run<R: Recording, P: ResponseRule>(
 {
     let mut state = State::Open(OpenDocket::new());
     let count = calls.len().min(answers.len());
-    // By place: calls are read and answers written, each from a list of its own.
+    // By place, since each call is read and its answer written at the same place of two lists.
     for place in 0..count {
         let turn = take(state, table, calls[place]);
         state = turn.state;

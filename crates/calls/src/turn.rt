@@ -1,4 +1,4 @@
-// One call on a docket in either state.
+//! One call on a docket in either state.
 ghost use Rattle.docket.specs.Calls.{of_open, close};
 ghost use Rattle.calls.specs.Calls.{meaning_of};
 ghost use Rattle.calls.specs.Outcomes.{Does};
@@ -11,14 +11,16 @@ use recording::interface::Recording;
 use recording::sample::Sample;
 use response::rule::ResponseRule;
 
-// A docket after a call, and the answer, if its state offers the call.
+/// The result of one call.
 #[derive(Drop)]
 pub struct Turn {
+    /// The docket after the call.
     pub state: State,
+    /// The answer, or none if the docket's state does not allow the call; then nothing changes.
     pub answer: Option<Answer>,
 }
 
-// A call on an open docket.
+// One call on an open docket.
 fn open_turn<R: Recording, P: ResponseRule>(
     mut docket: OpenDocket,
     table: &mut [Sample],
@@ -45,7 +47,7 @@ fn open_turn<R: Recording, P: ResponseRule>(
     }
 }
 
-// Closing an open docket.
+// A close of an open docket.
 fn close_turn(docket: OpenDocket, table: &[Sample]) -> Turn
     ensures answers_as_the_accepted_record { TakesTurn (State.Open docket) table.now
         (of_open close) result table.now }
@@ -67,7 +69,7 @@ fn close_turn(docket: OpenDocket, table: &[Sample]) -> Turn
     }
 }
 
-// A call on a closed docket.
+// One call on a closed docket.
 fn closed_turn<R: Recording, P: ResponseRule>(
     docket: ClosedDocket,
     table: &[Sample],
@@ -96,7 +98,7 @@ fn closed_turn<R: Recording, P: ResponseRule>(
     }
 }
 
-// One call on a docket in either state, if the state offers it.
+/// Makes one call on a docket in either state, if the state allows it.
 pub fn take<R: Recording, P: ResponseRule>(
     state: State,
     table: &mut [Sample],

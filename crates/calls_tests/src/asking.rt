@@ -1,4 +1,4 @@
-// What the examples share: readings, requests and what is expected of an answer.
+//! What the examples share: readings, requests and expected answers.
 use calls::answer::Answer;
 use figure::report::{Report, Verdict};
 use figure::request::{Enablement, Request};
@@ -15,7 +15,7 @@ pub(crate) const BLANK: Sample = Sample {
     power: 0,
 };
 
-// What the places for answers hold before a list of calls is run: no call answers it.
+// What the places for answers hold before a list of calls is run; no call has this answer.
 pub(crate) const UNANSWERED: Answer = Answer::Counted(usize::MAX);
 
 pub(crate) fn reading(time: u32, frequency: u32, power: i32) -> Reading {
@@ -71,7 +71,7 @@ pub(crate) fn refusal(reason: Reason, place: usize) -> Refusal {
     }
 }
 
-// The answer of a call that was refused so.
+// The answer of a call with this refusal.
 pub(crate) fn refused(reason: Reason, place: usize) -> Answer {
     Answer::Refused(refusal(reason, place))
 }

@@ -1,4 +1,5 @@
-// Days of a plant: recordings of both makes, both rules, and calls that are refused or not offered.
+//! Days of a plant: recordings of both makes, both rules, and calls that are refused or not
+//! offered.
 use crate::asking::*;
 use calls::answer::Answer;
 use calls::call::Call;
@@ -20,7 +21,8 @@ use std::test::Fail;
 // 49,850 mHz at 20,000 ms, and 0 W.
 const WHOLE: [u8; 12] = [0, 0, 0x4e, 0x20, 0, 0, 0xc2, 0xba, 0, 0, 0, 0];
 
-// 49.75 Hz at 20,050 ms and 50.25 Hz at 20,100 ms, both with the float next to 0.001 MW, which is 1,000 W.
+// 49.75 Hz at 20,050 ms and 50.25 Hz at 20,100 ms, both with the float next to 0.001 MW, which is
+// 1,000 W.
 const FLOATING: [u8; 24] = [
     0, 0, 0x4e, 0x52, 0x42, 0x47, 0, 0, 0x3a, 0x83, 0x12, 0x6f, 0, 0, 0x4e, 0x84, 0x42, 0x49, 0, 0,
     0x3a, 0x83, 0x12, 0x6f,
@@ -38,9 +40,9 @@ const FAST: Proposal = Proposal {
 
 type Calls<'a> = [Call<'a, ByteRecording<'a>, Rule>; 17];
 
-// The four samples of the worked record, put and loaded; R6 by either rule, and L6; then the last sample
-// amended, and the third one struck, so that the line rises from 49,850 at 20,000 by 4 mHz a ms: above
-// 50,150 at 20,076.
+// The four samples of the worked record, put and loaded; R6 by either rule, and L6; then the last
+// sample amended, and the third one struck, so that the line rises from 49,850 at 20,000 by 4 mHz a
+// ms: above 50,150 at 20,076.
 fn day<'a>(
     whole: &'a ByteRecording<'a>,
     floating: &'a ByteRecording<'a>,
@@ -75,8 +77,8 @@ fn day<'a>(
     ]
 }
 
-// What they answer: 1,360 W against 1,359, whatever the power after recovery, and 1,679 W by the switching
-// rule. After the strike the disturbance is high. A closed docket offers no put.
+// What they answer: 1,360 W against 1,359, whatever the power after recovery, and 1,679 W by the
+// switching rule. After the strike the disturbance is high. A closed docket does not allow put.
 fn answers() -> [Answer; 16] {
     let low = Answer::Closed(Disturbance {
         time: 20_001,
@@ -107,7 +109,7 @@ fn answers() -> [Answer; 16] {
     ]
 }
 
-// The day on a table of six places, with so many places for answers.
+// The day on a table of six places, with this number of places for answers.
 fn run_day(table: &mut [Sample], told: &mut [Answer]) -> Result<Result<usize, NotOffered>, Fail> {
     let plain = Settings::plain();
     let fast = Settings::new(FAST)?;
@@ -142,7 +144,8 @@ fn a_day_with_both_makes_and_both_rules(rt: HostRuntime) -> Result<(), Fail> {
     Ok(())
 }
 
-// What was struck moved the last sample down; the place it had keeps it, and the rest was never written.
+// The strike moved the last sample down; its former place still holds it, and the rest was never
+// written.
 #[test]
 fn the_table_after_the_day(rt: HostRuntime) -> Result<(), Fail> {
     let mut table = [BLANK; 6];
@@ -181,7 +184,7 @@ fn no_more_calls_than_places_for_answers(rt: HostRuntime) -> Result<(), Fail> {
     Ok(())
 }
 
-// A deliver on an open docket is not offered, and the run ends before the put after it.
+// An open docket does not allow deliver, and the run ends before the put after it.
 #[test]
 fn an_open_docket_offers_no_deliver(rt: HostRuntime) -> Result<(), Fail> {
     let plain = Settings::plain();
@@ -204,7 +207,7 @@ fn an_open_docket_offers_no_deliver(rt: HostRuntime) -> Result<(), Fail> {
     Ok(())
 }
 
-// Reopen on an open docket and close on a closed one are not offered either.
+// An open docket does not allow reopen, nor a closed one close.
 #[test]
 fn each_state_offers_its_own_calls(rt: HostRuntime) -> Result<(), Fail> {
     let reopened: [Call<ByteRecording, Switching>; 1] = [Call::Reopen];
@@ -239,7 +242,8 @@ fn each_state_offers_its_own_calls(rt: HostRuntime) -> Result<(), Fail> {
     Ok(())
 }
 
-// The second member of the recording is at the time of the first: none is taken, and the run goes on.
+// The second member of the recording is at the time of the first: none is taken, and the run goes
+// on.
 #[test]
 fn a_load_is_refused_inside_a_list(rt: HostRuntime) -> Result<(), Fail> {
     let mut twice = [0; 24];

@@ -1,4 +1,4 @@
-// Deliveries on a closed docket: with its own table, with another's, and with targets.
+//! Deliveries on a closed docket: with its own table, with another's, and with targets.
 use crate::asking::*;
 use docket::docket::{ClosedDocket, OpenDocket};
 use figure::report::{Report, Verdict};
@@ -43,13 +43,13 @@ fn delivered(table: &[Sample]) -> Result<Result<Report, Refusal>, Fail> {
     Ok(docket.deliver(table, request(&settings, &rule, Service::R6, 0)))
 }
 
-// The table is refused, whatever else stands in it.
+// The table is refused, whatever else it holds.
 fn is_refused(rt: &impl Abort, table: &[Sample]) -> Result<(), Fail> {
     assert_eq!(rt; delivered(table)?, Err(refusal(Reason::OtherTable, 0)));
     Ok(())
 }
 
-// The table is asked for before the amount, and the amount before anything else.
+// The table is checked before the amount, and the amount before anything else.
 #[test]
 fn the_table_is_asked_for_first(rt: HostRuntime) -> Result<(), Fail> {
     let docket = closed(&mut [BLANK; 4])?;
@@ -69,9 +69,9 @@ fn the_table_is_asked_for_first(rt: HostRuntime) -> Result<(), Fail> {
     Ok(())
 }
 
-// The target rises from 0 W at the base sample to 500 W at the disturbance, and so does the base. The responses
-// are -500, -480 at the disturbance, and 500: (490 + 13,000)/75 = 179.87, times 2. With one target counted,
-// the disturbance is after the last; the table holds no third.
+// The target rises from 0 W at the base sample to 500 W at the disturbance, and so does the base.
+// The responses are -500, -480 at the disturbance, and 500: (490 + 13,000)/75 = 179.87, times 2.
+// With one target counted, the disturbance is after the last; the table holds no third.
 #[test]
 fn targets_are_followed(rt: HostRuntime) -> Result<(), Fail> {
     let docket = closed(&mut [BLANK; 4])?;
@@ -123,8 +123,9 @@ fn its_own_table(rt: HostRuntime) -> Result<(), Fail> {
     Ok(())
 }
 
-// Twice the power, with the same disturbance: the table cannot be told from the docket's, and its own
-// figure is delivered. Level from the third sample on: (49,980 + 52,000)/75 = 1,359.73, times 2.
+// Twice the power, with the same disturbance: the engine cannot tell the table from the docket's,
+// and its own figure is delivered. Level from the third sample on: (49,980 + 52,000)/75 = 1,359.73,
+// times 2.
 #[test]
 fn another_table_with_the_same_disturbance(rt: HostRuntime) -> Result<(), Fail> {
     let [a, b, _, d] = record_a();

@@ -1,4 +1,4 @@
-// The base: what a plant gave before the disturbance, in hundredths of a watt.
+//! The base: the power of a plant before the disturbance, in hundredths of a watt.
 ghost use Rattle.std.specs.Prelude.{◌≡◌, [], pos, ◌*ℤ◌};
 ghost use Rattle.exact.specs.Fractions.{whole};
 ghost use Rattle.exact.specs.Limits.{Within};
@@ -23,7 +23,7 @@ fn in_hundredths(watts: i64) -> i128
     watts as i128 * 100
 }
 
-// The power that a point enters with, for its base and for its response.
+// The push of a point, in hundredths of a watt.
 pub(crate) fn power(point: Point) -> i128
     requires { Within widest_power point.push }
     ensures is { whole result ≡ power_of point }
@@ -32,8 +32,7 @@ pub(crate) fn power(point: Point) -> i128
     in_hundredths(point.push)
 }
 
-// The trajectory of the targets at a time. It walks from target to target, as the line is defined. A
-// search for the targets around the time would leave three cases behind it: before, between and after.
+// The trajectory of the targets at a time, in hundredths of a watt.
 fn trajectory(footing: Footing, targets: Targets, time: u32) -> i128
     requires { BeginsBy (λ g. g.time) time targets.all.now }
     ensures is { whole result ≡ trajectory_of to_half_up (case_on footing.entry targets.entry.all.now) time }
@@ -52,7 +51,8 @@ fn trajectory(footing: Footing, targets: Targets, time: u32) -> i128
     v0
 }
 
-// The push of a base point: raised where the trajectory rises to the disturbance.
+// The push of a base point in hundredths of a watt, raised by as much as the trajectory rises from
+// there to the disturbance time.
 fn base_push(footing: Footing, targets: Targets, point: Point) -> i128
     requires small { Within widest_power point.push }
     requires begins { (BeginsBy (λ g. g.time) footing.disturbance.time targets.all.now)
@@ -69,8 +69,7 @@ fn base_push(footing: Footing, targets: Targets, point: Point) -> i128
     pushed + (there - here).max(0)
 }
 
-// What responses are counted from: the base is half-up of the mean of the base pushes. A loop: a chain
-// would pass over the samples twice, for the sum and for the count.
+// The base: the mean of the base pushes, half-up. One pass for both sum and count.
 pub(crate) fn basis(footing: Footing, targets: Targets) -> Basis
     requires some { points_on footing ≡ [] → ⊥ }
     requires reached { MissedByTargets targets.all.now footing.disturbance.time (points_on footing) → ⊥ }

@@ -1,4 +1,4 @@
-// What a response is counted from.
+//! What the response is measured against.
 ghost use Rattle.exact.specs.Limits.{Within};
 ghost use Rattle.delivery.specs.Limits.{widest_base};
 

@@ -1,4 +1,4 @@
-// The compensated response at a point.
+//! The compensated response at a point.
 ghost use Rattle.std.specs.Prelude.{◌≡◌, ◌^◌};
 ghost use Rattle.exact.specs.Limits.{Within};
 ghost use Rattle.response.specs.Weights.{Weighs};
@@ -12,7 +12,7 @@ use figure::point::Point;
 use response::rule::ResponseRule;
 use response::weighing::{Dip, Offset, Weight};
 
-// The weight at a point: what the rule answers from the disturbance on, 1 before it.
+// The weight at a point: the rule's from the disturbance time on, 1 before it.
 fn weight_at<R: ResponseRule>(point: Point, disturbance: u32, rule: &R) -> Weight
     requires { Tame point }
     ensures { Weighs result (weight_at (R.ResponseRule.weighs rule.now) disturbance point) }
@@ -29,9 +29,7 @@ fn weight_at<R: ResponseRule>(point: Point, disturbance: u32, rule: &R) -> Weigh
     rule.weight(dip, offset)
 }
 
-// The compensated response in hundredths of a watt: the response times the weight, half-up. The rule
-// stands beside the basis: the caller lends it, and a struct of basis and rule would have to be lent
-// itself.
+// The compensated response in hundredths of a watt: the response times the weight, half-up.
 pub(crate) fn compensated<R: ResponseRule>(point: Point, basis: Basis, rule: &R) -> i128
     requires { Tame point }
     ensures is { result ≡ compensated_z (R.ResponseRule.weighs rule.now) basis point }

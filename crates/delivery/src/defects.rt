@@ -1,4 +1,4 @@
-// What bars a delivery, in the checking order.
+//! What bars a delivery, in the order of the checks.
 ghost use Rattle.std.specs.Prelude.{◌≡◌, ◌⊎◌, take, IfOk, Decides};
 ghost use Rattle.std.specs.Result.{result_err};
 ghost use Rattle.timeline.specs.Checks.{FirstFault};
@@ -32,7 +32,8 @@ fn is_wrong_side(side: Side, direction: Direction) -> bool
     side.direction() != direction
 }
 
-// The first defect that asks nothing of recovery and windows; without one, the counted targets.
+// The first defect from 8 to 12, which needs neither recovery nor windows; else the counted
+// targets.
 pub(crate) fn early_defect<'a>(
     footing: Footing,
     table: &'a [Target],
@@ -60,8 +61,7 @@ pub(crate) fn early_defect<'a>(
     Ok(targets)
 }
 
-// Whether one of two windows that are not empty begins before the first sample or ends after the
-// last.
+// Whether a window that is not empty begins before the first sample or ends after the last.
 fn is_one_beyond(trace: Trace, spans: Spans) -> bool
     ensures { Decides result (Beyond trace.entry.samples.now spans.first
         ⊎ Beyond trace.entry.samples.now spans.second) }
@@ -69,7 +69,7 @@ fn is_one_beyond(trace: Trace, spans: Spans) -> bool
     is_beyond(trace, spans.first) || is_beyond(trace, spans.second)
 }
 
-// The first defect of two windows.
+// The first defect of the two windows, from 14 to 16.
 pub(crate) fn span_defect(trace: Trace, spans: Spans) -> Result<(), Reason>
     ensures { FirstFault (span_defects trace.entry.samples.now spans.widest_gap spans.first spans.second)
         (unplaced (result_err result)) }

@@ -1,4 +1,4 @@
-// A delivery, from a record with its disturbance to the report or the refusal.
+//! A delivery: from a record with its disturbance to the report or the refusal.
 ghost use Rattle.std.specs.Prelude.{◌≡◌, IfOk, Result as Answer};
 ghost use Rattle.recording.specs.declared.refusal.Refusal.{Refusal as Refused};
 ghost use Rattle.response.specs.Groups.{Sound as SoundRow};
@@ -38,7 +38,7 @@ fn reached(
     trigger_time(trace, disturbance, recovery, trigger?.dip)
 }
 
-// The delivery of what is asked, of a side over any row of windows.
+// The delivery of a request, for a side and any row of windows.
 fn deliver_over<R: ResponseRule>(
     trace: Trace,
     disturbance: Disturbance,
@@ -76,10 +76,9 @@ fn deliver_over<R: ResponseRule>(
     Ok(judged(time, recovered, values, enablement.watts))
 }
 
-// The delivery of a service on a sound record with its disturbance: the report, or the first defect
-// in the checking order. It changes nothing. It asks for a record and its disturbance apart: a closed
-// docket keeps its disturbance as plain numbers. The targets of a request are the caller's table, with
-// its count beside it. Each promise is a clause of its own, so that it can be cited by its name.
+/// The delivery of a request on a sound record with its disturbance: the report, or the first
+/// defect, refusals 8 to 16 with place and position 0. Changes nothing. Takes record and
+/// disturbance as two parameters, since a closed docket keeps its disturbance without the record.
 pub fn deliver<R: ResponseRule>(
     trace: Trace,
     disturbance: Disturbance,

@@ -1,4 +1,4 @@
-// What a base is taken from.
+//! What a base is taken from.
 ghost use Rattle.std.specs.Prelude.{◌≡◌, ◌<◌, true, [], length, Decides};
 ghost use Rattle.figure.specs.Steps.{is_base};
 ghost use Rattle.figure.specs.Defects.{Missed, OneMissed, MissedByTargets};
@@ -9,7 +9,7 @@ use disturbance::disturbance::Disturbance;
 use disturbance::trace::Trace;
 use response::base::BaseWindow;
 
-// A trace, as its disturbance turns it, and the base window before the disturbance.
+// A trace with its disturbance, and the base window before the disturbance time.
 #[derive(Clone, Copy)]
 pub(crate) struct Footing<'a> {
     pub(crate) trace: Trace<'a>,
@@ -18,7 +18,7 @@ pub(crate) struct Footing<'a> {
 }
 
 impl Footing<'_> {
-    // Whether a sample at a time counts for the base. Both edges are inside.
+    // Whether a sample at a time is a base sample. Both ends of the window are inside.
     pub(crate) fn counts(self, time: u32) -> bool
         ensures { result ≡ is_base self.entry.disturbance.time self.entry.window time }
     {
@@ -27,7 +27,7 @@ impl Footing<'_> {
             && time as u64 + self.window.end as u64 <= disturbance
     }
 
-    // Whether no sample counts for the base.
+    // Whether there is no base sample.
     pub(crate) fn lacks_base(self) -> bool
         ensures { Decides result (points_on self.entry ≡ []) }
     {
@@ -38,7 +38,7 @@ impl Footing<'_> {
             .any(|sample| self.counts(sample.time))
     }
 
-    // Whether a sample at a time counts for the base, and the targets miss that time.
+    // Whether a sample at a time is a base sample and lies outside the targets.
     fn misses(self, targets: Targets, time: u32) -> bool
         ensures { Decides result ((is_base self.entry.disturbance.time self.entry.window time ≡ true)
             × ((0 < length targets.entry.all.now) × (Missed targets.entry.all.now time))) }
@@ -46,8 +46,7 @@ impl Footing<'_> {
         self.counts(time) && targets.miss(time)
     }
 
-    // Whether one of the samples counts for the base and is at a time that the targets miss. One pass
-    // over them.
+    // Whether one of the base samples lies outside the targets. One pass over the samples.
     fn misses_one(self, targets: Targets) -> bool
         ensures { Decides result ((0 < length targets.entry.all.now)
             × (OneMissed targets.entry.all.now (points_on self.entry))) }
@@ -58,7 +57,7 @@ impl Footing<'_> {
             .any(|sample| self.misses(targets, sample.time))
     }
 
-    // Whether, with targets, the disturbance or a base sample is at a time that they miss. Without
+    // Whether, with targets, the disturbance time or a base sample lies outside them. Without
     // targets no sample is looked at.
     pub(crate) fn is_missed(self, targets: Targets) -> bool
         ensures { Decides result (MissedByTargets targets.entry.all.now self.entry.disturbance.time (points_on self.entry)) }

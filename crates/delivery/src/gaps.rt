@@ -1,5 +1,4 @@
-// Gaps between neighbouring samples: two samples, and no slice of two, whose length each function would
-// have to ask for.
+//! Gaps between neighbouring samples.
 ghost use Rattle.std.specs.Prelude.{◌-◌, ◌<◌, ◌⊎◌, Decides};
 ghost use Rattle.figure.specs.Defects.{Shares, Gapped};
 
@@ -21,8 +20,8 @@ fn is_wide(a: Sample, b: Sample, widest: u32) -> bool
     widest < b.time.saturating_sub(a.time)
 }
 
-// Whether two samples are further apart than the widest gap, and share more than an instant with one of
-// two windows.
+// Whether two samples are further apart than the widest gap and share more than an instant with one
+// of two windows.
 fn is_gap(a: Sample, b: Sample, spans: Spans) -> bool
     ensures { Decides result ((spans.widest_gap < b.time - a.time) × (Shares a b spans.first ⊎ Shares a b spans.second)) }
 {

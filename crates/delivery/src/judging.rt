@@ -1,4 +1,4 @@
-// The report of a delivery, and its verdict.
+//! The report of a delivery, and its verdict.
 ghost use Rattle.std.specs.Prelude.{◌≡◌, option_map};
 ghost use Rattle.exact.specs.Fractions.{whole};
 ghost use Rattle.figure.specs.Reports.{Judged};
@@ -9,7 +9,7 @@ use crate::values::Values;
 use figure::report::{Report, Verdict};
 use std::cmp::Ordering;
 
-// How a delivery stands to the enabled amount.
+// The verdict on a delivery, for an enabled amount.
 fn verdict(watts: i64, enabled: i64) -> Verdict
     ensures { Judged watts enabled result }
 {
@@ -28,7 +28,7 @@ fn lesser(values: Values) -> i64
     values.second.map_or(first, |second| first.min(second))
 }
 
-// The report of two values, where so many watts are enabled.
+// The report of two values, for an enabled amount in W.
 pub(crate) fn judged(disturbance: u32, recovery: Option<u32>, values: Values, watts: i64) -> Report
     ensures { Filled disturbance recovery values watts result }
 {

@@ -1,4 +1,6 @@
-// The code that works a delivery out.
+//! The code that computes a delivery: `deliver::deliver`, for any response rule.
+//! For dockets, and for callers with a sound record. docs/RULES.md states the steps under The
+//! delivered figure and the defects there and under Refusals.
 #![tactic(auto)]
 
 mod base;

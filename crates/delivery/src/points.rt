@@ -1,4 +1,4 @@
-// The record as its disturbance turns it.
+//! Samples as they count for the direction of a disturbance.
 ghost use Rattle.std.specs.Prelude.{◌≡◌, Some};
 ghost use Rattle.figure.specs.Points.{turned, course};
 ghost use Rattle.figure.specs.Steps.{used_points};
@@ -8,7 +8,7 @@ use disturbance::trace::Trace;
 use figure::point::Point;
 use recording::sample::Sample;
 
-// A sample, turned.
+// A sample with its dip and its push.
 pub(crate) fn turned(direction: Direction, sample: Sample) -> Point
     ensures { result ≡ turned direction sample }
 {
@@ -29,8 +29,7 @@ fn before(trace: Trace<'_>, time: u32) -> Trace<'_>
     }
 }
 
-// The samples that are used: those before any recovery. Not by `map_or`: what holds for every direction
-// is not found through its closure.
+// The samples that are used: those before any recovery.
 pub(crate) fn used(trace: Trace<'_>, recovery: Option<u32>) -> Trace<'_>
     ensures { (d : _) → course d result.samples.now ≡ used_points recovery (course d trace.entry.samples.now) }
 {

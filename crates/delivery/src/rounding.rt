@@ -1,5 +1,4 @@
-// Half-up and areas in whole numbers, wide enough that nothing overflows. No type stands for the bounds:
-// the numbers of each caller hold a bound of their own, and what is asked here is wide enough for all.
+//! Half-up and areas in whole numbers, wide enough that nothing overflows.
 ghost use Rattle.std.specs.Prelude.{◌≡◌, ℕ, ◌^◌, ◌<◌, ◌≤◌, pos, ◌+ℤ◌, ◌*ℤ◌};
 ghost use Rattle.exact.specs.Fractions.{frac, whole};
 ghost use Rattle.exact.specs.Limits.{Within};

@@ -1,4 +1,4 @@
-// How far the windows of a service are shifted.
+//! How far the windows of a service are shifted.
 ghost use Rattle.std.specs.Prelude.{◌≡◌, ◌^◌, IfOk};
 ghost use Rattle.std.specs.Option.{ok_or};
 ghost use Rattle.exact.specs.Limits.{Within};
@@ -9,14 +9,15 @@ use recording::refusal::Reason;
 use response::limits::RAMP_START;
 use response::setup::{Rate, Trigger};
 
-// The whole milliseconds that a dip takes to the trigger at the ramp rate, rounded up.
+// The whole milliseconds in which a dip that grows at the ramp rate reaches the trigger, rounded
+// up.
 fn ramp_time(rate: Rate, trigger: Trigger) -> u32
     ensures { result ≡ ramp_time rate.mhz_per_s trigger }
 {
     ((trigger.dip - RAMP_START) * 1_000).div_ceil(rate.mhz_per_s)
 }
 
-// The shift in ms: 0 without a trigger, refused where the trigger time does not exist.
+// The shift in ms: 0 without a trigger, a defect if the trigger time does not exist.
 pub(crate) fn shift(
     rate: Rate,
     disturbance: u32,

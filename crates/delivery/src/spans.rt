@@ -1,4 +1,4 @@
-// Windows on the clock of the record.
+//! Windows on the clock of the record.
 ghost use Rattle.std.specs.Prelude.{◌≡◌, ◌^◌, pos, ◌≤ℤ◌, Decides, int_le};
 ghost use Rattle.exact.specs.Limits.{Within};
 ghost use Rattle.recording.specs.Samples.{latest};
@@ -10,8 +10,7 @@ use disturbance::trace::Trace;
 use figure::span::Span;
 use response::group::{Row, Window};
 
-// A row on the clock: the two windows of a service, and the widest gap between neighbouring samples in
-// them, in ms.
+// The two windows of a service, and the widest gap between neighbouring samples in them, in ms.
 #[derive(Clone, Copy)]
 pub(crate) struct Spans {
     pub(crate) first: Span,
@@ -53,14 +52,14 @@ pub(crate) fn placed_row(disturbance: u32, shift: i64, recovery: Option<u32>, ro
     }
 }
 
-// Whether nothing of a window is left.
+// Whether a window is empty.
 pub(crate) fn is_empty(span: Span) -> bool
     ensures { result ≡ int_le span.end span.start }
 {
     span.end <= span.start
 }
 
-// A window whose ends are times of the clock.
+// A window with both ends within the times of a record.
 pub(crate) fn on_clock(span: Span) -> Window
     requires { (pos 0 ≤ℤ span.start) × ((span.start ≤ℤ pos latest)
         × ((pos 0 ≤ℤ span.end) × (span.end ≤ℤ pos latest))) }

@@ -1,4 +1,4 @@
-// The targets of a delivery: those of a table that are counted.
+//! The counted targets of a table.
 ghost use Rattle.std.specs.Prelude.{◌≡◌, ℕ, ◌<◌, length, take, slice_index_or, Decides, MatchResult};
 ghost use Rattle.timeline.specs.Orders.{Sound};
 ghost use Rattle.timeline.specs.Targets.{targets as kind};
@@ -9,7 +9,7 @@ use recording::refusal::Reason;
 use timeline::fault::check_table;
 use timeline::target::Target;
 
-// Each is within its limits and later than the one before.
+// Targets within their limits, each later than the one before.
 #[derive(Clone, Copy)]
 pub(crate) struct Targets<'a> {
     pub(crate) all: &'a [Target],
@@ -17,7 +17,7 @@ pub(crate) struct Targets<'a> {
     ghost rising: { RisingTargets all.now },
 }
 
-// The counted entries of a table, if it holds as many and they are in order.
+// The counted entries of a table, if it has them all, within their limits and in order.
 pub(crate) fn counted(table: &[Target], count: usize) -> Result<Targets<'_>, Reason>
     ensures { MatchResult result
         (λ targets. (Sound kind count table.now) × (targets.all.now ≡ take count table.now))
@@ -30,7 +30,7 @@ pub(crate) fn counted(table: &[Target], count: usize) -> Result<Targets<'_>, Rea
 }
 
 impl Targets<'_> {
-    // Whether there are some, and a time lies before the first or after the last.
+    // Whether there are targets, and a time lies before the first or after the last.
     pub(crate) fn miss(self, time: u32) -> bool
         ensures { Decides result ((0 < length self.entry.all.now) × (Missed self.entry.all.now time)) }
     {

@@ -1,4 +1,4 @@
-// The values of a service's two windows.
+//! The values of a service's two windows.
 ghost use Rattle.std.specs.Prelude.{◌≡◌, ◌≤◌, option_map};
 ghost use Rattle.exact.specs.Fractions.{whole};
 ghost use Rattle.figure.specs.Points.{course};
@@ -15,7 +15,7 @@ use disturbance::direction::Direction;
 use disturbance::trace::Trace;
 use response::rule::ResponseRule;
 
-// In watts. There is no second value where the second window is empty.
+// In watts. The second value is none if the second window is empty.
 #[derive(Clone, Copy)]
 pub(crate) struct Values {
     pub(crate) first: i64,

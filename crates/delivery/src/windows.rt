@@ -1,4 +1,4 @@
-// The value of a window.
+//! The value of a window.
 ghost use Rattle.std.specs.Prelude.{◌≡◌, ◌-◌, ◌*◌, ◌^◌};
 ghost use Rattle.exact.specs.Fractions.{whole};
 ghost use Rattle.exact.specs.Limits.{Within};
@@ -17,9 +17,7 @@ use response::group::Window;
 use response::rule::ResponseRule;
 
 // Twice the area under the compensated response in a window. One pass over the samples, which asks
-// the rule once for each. A loop: each step needs the point before, and it ends at the window's end.
-// The trace and the direction stand apart: the trace is cut at recovery on the way here, so a struct of
-// both would be taken apart and built anew.
+// the rule once for each and ends at the window's end.
 fn area<R: ResponseRule>(
     trace: Trace,
     direction: Direction,
@@ -56,7 +54,7 @@ fn area<R: ResponseRule>(
     sum + strip(v1, v1, window.end - window.start.max(t1))
 }
 
-// A window's value in watts: multiplier times the trapezoid average, half-up.
+// A window's value in watts: the multiplier times the trapezoid average, half-up.
 pub(crate) fn window_value<R: ResponseRule>(
     trace: Trace,
     direction: Direction,

@@ -1,4 +1,4 @@
-// How the tests ask for a delivery, and what they expect of the answer.
+//! How the tests ask for a delivery, and what they expect of the answer.
 use delivery::deliver::deliver;
 use disturbance::disturbance::find_disturbance;
 use disturbance::trace::Trace;
@@ -25,7 +25,7 @@ pub(crate) const PLAIN: Proposal = Proposal {
     base_end: 8_000,
 };
 
-// What a delivery is asked with, but for the rule.
+// The request for a delivery, apart from the rule.
 #[derive(Clone, Copy)]
 pub(crate) struct Case<'a> {
     pub samples: &'a [Sample],
@@ -111,8 +111,8 @@ fn one(disturbance: u32, recovery: u32, first: i64, verdict: Verdict) -> Report 
     }
 }
 
-// A delivery of the one value, above the enabled amount. This and the two like it are names in place of
-// a parameter, so that an example says its verdict in a word.
+// A delivery of the one value, above the enabled amount. This and the two like it are names in
+// place of a parameter, so that an example says its verdict in a word.
 pub(crate) fn met(disturbance: u32, recovery: u32, value: i64) -> Report {
     one(disturbance, recovery, value, Verdict::Met)
 }

@@ -1,4 +1,4 @@
-// Which samples the base is taken from.
+//! Which samples the base is taken from.
 use crate::asking::*;
 use crate::records::*;
 use recording::sample::Sample;
@@ -18,8 +18,8 @@ fn based(samples: &[Sample], base_begin: u32, base_end: u32) -> Case<'_> {
     )
 }
 
-// From 700 W at 19,301: (39 * 150 + 26 * 300)/65 = 210, times 2. With 7 W at 19,000 as well 353.5 W: 556.5,
-// times 2. From 7 W alone: (39 * 843 + 26 * 993)/65 = 903, times 2.
+// From 700 W at 19,301: (39 * 150 + 26 * 300)/65 = 210, times 2. With 7 W at 19,000 as well 353.5
+// W: 556.5, times 2. From 7 W alone: (39 * 843 + 26 * 993)/65 = 903, times 2.
 #[test]
 fn a_sample_at_the_disturbance_time_counts_with_end_0(rt: HostRuntime) -> Result<(), Fail> {
     let b = record_b();

@@ -1,4 +1,4 @@
-// Which disturbance a delivery is worked out for.
+//! The disturbance for which a delivery is computed.
 use crate::asking::*;
 use crate::records::*;
 use disturbance::disturbance::find_disturbance;

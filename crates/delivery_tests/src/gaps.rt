@@ -1,4 +1,5 @@
-// The widest gap between neighbours in a window: 50 ms for a fast service, 4,000 ms for the others.
+//! The widest gap between neighbours in a window: 50 ms for a fast service, 4,000 ms for the
+//! others.
 use crate::asking::*;
 use crate::long::*;
 use crate::records::*;
@@ -51,7 +52,8 @@ fn slow_and_delayed_services(rt: HostRuntime) -> Result<(), Fail> {
     refuses(&rt, variable(plain(&delayed_wide, Service::R5)), 16)
 }
 
-// The neighbours at 20,050 and 20,200, and those at 20,060 and 20,111, of which 2 ms lie in the window.
+// The neighbours at 20,050 and 20,200, and those at 20,060 and 20,111, of which 2 ms lie in the
+// window.
 #[test]
 fn a_gap_over_the_recovery_counts_whole(rt: HostRuntime) -> Result<(), Fail> {
     refuses(

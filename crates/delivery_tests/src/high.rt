@@ -1,4 +1,4 @@
-// High disturbances: powers and targets count the other way round.
+//! High disturbances: powers and targets count the other way round.
 use crate::asking::*;
 use crate::records::*;
 use response::service::Service;
@@ -90,8 +90,8 @@ fn falling_targets_raise_the_base(rt: HostRuntime) -> Result<(), Fail> {
     )
 }
 
-// Record B turned: 7 + 50 and 700 W, 378.5 in the mean; (39 * 471.5 + 26 * 621.5)/65 = 531.5, times 2. From
-// 700 W alone (39 * 150 + 26 * 300)/65 = 210, times 2.
+// Record B turned: 7 + 50 and 700 W, 378.5 in the mean; (39 * 471.5 + 26 * 621.5)/65 = 531.5, times
+// 2. From 700 W alone (39 * 150 + 26 * 300)/65 = 210, times 2.
 #[test]
 fn targets_at_the_disturbance_time_and_at_base_samples(rt: HostRuntime) -> Result<(), Fail> {
     let samples = [

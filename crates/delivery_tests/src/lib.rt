@@ -1,8 +1,10 @@
-// Tests of the delivered figure. Every expected figure comes from an independent calculation in exact
-// fractions, which finds each first millisecond by trying every millisecond, and was worked out by hand
-// as well where a comment shows the numbers. `python3 tools/figures.py`, at the top of the repository,
-// reads the cases out of these files and works each figure out again. It carries out what is plain, and
-// has to be taught a helper with a loop, a closure or a match by hand.
+//! Tests of the delivered figure. Every expected figure comes from an independent calculation in
+//! exact fractions, which finds each first millisecond by trying every millisecond; some were also
+//! worked out by hand, as a comment shows.
+//! `python3 tools/figures.py`, at the top of the repository, reads the cases from these files and
+//! works each figure out again. It follows plain code only: a helper with a loop, a closure or a
+//! match must be added to it by hand.
+//! They try the rules of docs/RULES.md under The delivered figure.
 #![tactic(auto)]
 
 #[cfg(test)]

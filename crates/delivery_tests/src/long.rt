@@ -1,12 +1,13 @@
-// Records over whole windows. The dip is 200 from the disturbance time 20,001 to the end of the second
-// window, and from 1,200 ms on it weighs 3. The last sample lies 1 ms later and has recovered.
+//! Records over whole windows. The dip is 200 from the disturbance time 20,001 to the end of the
+//! second window, and from 1,200 ms on it weighs 3. The last sample lies 1 ms later and has
+//! recovered.
 ghost use Rattle.std.specs.Prelude.{◌<◌, ◌≤◌, negsuc, ◌≤ℤ◌};
 
 use crate::records::*;
 use disturbance::direction::Direction;
 use recording::sample::Sample;
 
-// Low or high by so many mHz.
+// Low or high by this many mHz.
 fn off(direction: Direction, time: u32, dip: u8, power: i32) -> Sample {
     let frequency = match direction {
         Direction::Low => 50_000 - dip as u32,
@@ -34,8 +35,8 @@ fn pushing(direction: Direction, push: i32) -> i32
     }
 }
 
-// Two samples of this power before the disturbance, and then one every step, in ms, its power by its
-// number.
+// Two samples of this power before the disturbance, and then one every step, in ms, its power by
+// its number.
 fn record<const N: usize, F: Fn(u16) -> i32>(
     direction: Direction,
     before: i32,
@@ -57,7 +58,8 @@ fn record<const N: usize, F: Fn(u16) -> i32>(
     samples
 }
 
-// A sample every 50 ms: 100,000 W for 6,000 ms, then 60 W less at each sample, to 35,200 W at 80,001.
+// A sample every 50 ms: 100,000 W for 6,000 ms, then 60 W less at each sample, to 35,200 W at
+// 80,001.
 pub(crate) fn fast_record(direction: Direction) -> [Sample; 1_204] {
     let mut samples = record(direction, 0, 50, |i: u16| {
         let push = if i <= 120 {
@@ -71,8 +73,8 @@ pub(crate) fn fast_record(direction: Direction) -> [Sample; 1_204] {
     samples
 }
 
-// A sample every 4,000 ms: 1,000 W more at each up to 115,000 W at 80,001, then 2,000 W less at each, to
-// -5,000 W at 320,001.
+// A sample every 4,000 ms: 1,000 W more at each up to 115,000 W at 80,001, then 2,000 W less at
+// each, to -5,000 W at 320,001.
 pub(crate) fn slow_record(direction: Direction) -> [Sample; 79] {
     let mut samples = record(direction, 0, 4_000, |i: u16| {
         let push = if i <= 15 {
@@ -86,8 +88,8 @@ pub(crate) fn slow_record(direction: Direction) -> [Sample; 79] {
     samples
 }
 
-// A sample every 4,000 ms: 1,000 W more at each up to 175,000 W at 320,001, then 1,000 W less at each, to
-// 25,000 W at 920,001.
+// A sample every 4,000 ms: 1,000 W more at each up to 175,000 W at 320,001, then 1,000 W less at
+// each, to 25,000 W at 920,001.
 pub(crate) fn delayed_record(direction: Direction) -> [Sample; 229] {
     let mut samples = record(direction, 0, 4_000, |i: u16| {
         let push = if i <= 75 {

@@ -1,4 +1,4 @@
-// Records that the tests share: time in ms, frequency in mHz, power in W.
+//! Records that the tests share: time in ms, frequency in mHz, power in W.
 use recording::sample::Sample;
 
 pub(crate) const BLANK: Sample = Sample {
@@ -15,9 +15,9 @@ pub(crate) fn at(time: u32, frequency: u32, power: i32) -> Sample {
     }
 }
 
-// A fall by 2 mHz a ms from 49,850 at 20,000, so that the disturbance time is 20,001, and one sample
-// more. This and the three like it are names in place of parameters, so that an example says in a word
-// which it is.
+// A fall by 2 mHz a ms from 49,850 at 20,000, so that the disturbance time is 20,001, and one
+// sample more. This and the three like it are names in place of parameters, so that an example says
+// in a word which it is.
 pub(crate) fn fallen(last: Sample) -> [Sample; 4] {
     [
         at(5_000, 50_000, 0),
@@ -64,8 +64,8 @@ pub(crate) fn risen_long(fourth: Sample, last: Sample) -> [Sample; 5] {
     ]
 }
 
-// A fall by 1 mHz a ms through the whole band: the disturbance time is 19,301, on a sample. It comes back
-// by 10 mHz a ms: on 50,000 at 19,365, recovered at 19,366.
+// A fall by 1 mHz a ms through the whole band: the disturbance time is 19,301, on a sample. It
+// comes back by 10 mHz a ms: on 50,000 at 19,365, recovered at 19,366.
 pub(crate) fn record_b() -> [Sample; 4] {
     [
         at(19_000, 50_150, 7),
@@ -75,8 +75,8 @@ pub(crate) fn record_b() -> [Sample; 4] {
     ]
 }
 
-// A fall by 100 mHz a ms: at the disturbance time 20,001 the dip is 250. It comes back by 20 mHz a ms:
-// recovered at 20,020.
+// A fall by 100 mHz a ms: at the disturbance time 20,001 the dip is 250. It comes back by 20 mHz a
+// ms: recovered at 20,020.
 pub(crate) fn record_c() -> [Sample; 5] {
     [
         at(5_000, 50_000, 0),

@@ -1,5 +1,5 @@
-// Recovery at the start and the end of each window, and 1 ms to either side; after the last sample before
-// it the power counts as level.
+//! Recovery at the start and the end of each window, and 1 ms to either side; after the last sample
+//! before it the power counts as level.
 use crate::asking::*;
 use crate::long::*;
 use crate::records::*;
@@ -10,7 +10,8 @@ use response::service::Service;
 use response::settings::Proposal;
 use std::test::Fail;
 
-// 26 ms level at 1,000 W, whatever the power of the next sample: (24,990 + 26,000)/75 = 679.87, times 2.
+// 26 ms level at 1,000 W, whatever the power of the next sample: (24,990 + 26,000)/75 = 679.87,
+// times 2.
 #[test]
 fn the_power_after_recovery_does_not_count(rt: HostRuntime) -> Result<(), Fail> {
     delivers(
@@ -41,8 +42,8 @@ fn a_window_may_lie_wholly_in_the_level_part(rt: HostRuntime) -> Result<(), Fail
     )
 }
 
-// At rate 10 the ramp dip is 199.99 at 25,000: the weight is 49.99/20, and stays so while the power is
-// level: 4,999 W, times 2.
+// At rate 10 the ramp dip is 199.99 at 25,000: the weight is 49.99/20, and stays so while the power
+// is level: 4,999 W, times 2.
 #[test]
 fn the_weight_does_not_grow_in_the_level_part(rt: HostRuntime) -> Result<(), Fail> {
     let samples = fallen_long(at(25_000, 49_830, 2_000), at(28_000, 50_170, 4_000));
@@ -104,8 +105,8 @@ fn around_the_start_of_a_delayed_services_window(rt: HostRuntime) -> Result<(), 
     )
 }
 
-// One sample on the start and the next, 1 ms later, on the recovery: the dip of 200 weighs 3, 6,000 W,
-// times 2. One ms later the gap before them, of 5,952 ms, reaches into the window.
+// One sample on the start and the next, 1 ms later, on the recovery: the dip of 200 weighs 3, 6,000
+// W, times 2. One ms later the gap before them, of 5,952 ms, reaches into the window.
 #[test]
 fn recovery_on_a_sample_just_after_the_start(rt: HostRuntime) -> Result<(), Fail> {
     let on = fallen_long(at(26_001, 49_800, 2_000), at(26_002, 50_200, 9_000));
@@ -118,8 +119,8 @@ fn recovery_on_a_sample_just_after_the_start(rt: HostRuntime) -> Result<(), Fail
     refuses(&rt, variable(plain(&later, Service::R60)), 16)
 }
 
-// (1,625,000,000 + 49 * 300,000)/5,999 = 273,328.9, times 2; with the 6,000 ms full 273,333.33, times 2;
-// then a second window of 1 ms, level at 300,000 W, times 2.
+// (1,625,000,000 + 49 * 300,000)/5,999 = 273,328.9, times 2; with the 6,000 ms full 273,333.33,
+// times 2; then a second window of 1 ms, level at 300,000 W, times 2.
 #[test]
 fn between_the_windows_of_a_fast_service(rt: HostRuntime) -> Result<(), Fail> {
     let mut samples = fast_record(Direction::Low);
@@ -269,7 +270,8 @@ fn at_the_end_of_a_delayed_service(rt: HostRuntime) -> Result<(), Fail> {
     )
 }
 
-// The disturbance at 20,001 and the recovery at 20,002 are both on samples: 1 ms level at 1,000 W, times 2.
+// The disturbance at 20,001 and the recovery at 20,002 are both on samples: 1 ms level at 1,000 W,
+// times 2.
 #[test]
 fn recovery_at_the_millisecond_after_the_disturbance(rt: HostRuntime) -> Result<(), Fail> {
     let samples = [
@@ -285,9 +287,10 @@ fn recovery_at_the_millisecond_after_the_disturbance(rt: HostRuntime) -> Result<
     )
 }
 
-// A battery that draws 20,000 W, answers with 1,000,000 W above that, and has another power at 20,200, where the
-// network is at this frequency. The weighed responses from 20,000 on are 0, 400,004 * 6.25/5 = 500,005, and twice
-// 1,000,000: over three times 50 ms they average 250,002.5, 750,002.5 and 1,000,000.
+// A battery that draws 20,000 W, answers with 1,000,000 W above that, and has another power at
+// 20,200, where the network is at this frequency. The weighed responses from 20,000 on are 0,
+// 400,004 * 6.25/5 = 500,005, and twice 1,000,000: over three times 50 ms they average 250,002.5,
+// 750,002.5 and 1,000,000.
 fn held_until(frequency: u32, power: i32) -> [Sample; 9] {
     [
         at(4_000, 50_000, -19_000),
@@ -302,8 +305,9 @@ fn held_until(frequency: u32, power: i32) -> [Sample; 9] {
     ]
 }
 
-// 50,000 at 20,199 and 50,001 at 20,200, the very sample at which the battery has stepped back, or further up. The
-// last 50 ms are level: 3,000,005/4 = 750,001.25, times 2. With the step back counted in it would be 1,250,003.
+// 50,000 at 20,199 and 50,001 at 20,200, the very sample at which the battery has stepped back, or
+// further up. The last 50 ms are level: 3,000,005/4 = 750,001.25, times 2. With the step back
+// counted in it would be 1,250,003.
 #[test]
 fn a_step_at_recovery_does_not_count(rt: HostRuntime) -> Result<(), Fail> {
     let back = held_until(50_001, -20_000);
@@ -331,8 +335,8 @@ fn a_step_a_millisecond_after_recovery_does_not_count(rt: HostRuntime) -> Result
     )
 }
 
-// 50,000 at 20,200 and 50,001 at 20,201: down to 0 in the last 50 ms, and 1 ms level there. 125,000,250/201 =
-// 621,891.79, times 2.
+// 50,000 at 20,200 and 50,001 at 20,201: down to 0 in the last 50 ms, and 1 ms level there.
+// 125,000,250/201 = 621,891.79, times 2.
 #[test]
 fn a_step_a_millisecond_before_recovery_counts(rt: HostRuntime) -> Result<(), Fail> {
     let samples = held_until(50_000, -20_000);

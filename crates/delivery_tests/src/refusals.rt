@@ -1,4 +1,4 @@
-// Every refusal of a delivery, and which comes first where several apply.
+//! Every refusal of a delivery, and which comes first where several apply.
 use crate::asking::*;
 use crate::records::*;
 use figure::request::Enablement;

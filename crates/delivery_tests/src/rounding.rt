@@ -1,5 +1,5 @@
-// Rounding: halves go up, at each step that is rounded and at no other. Powers count in hundredths of a
-// watt up to the value of a window.
+//! Rounding: halves go up, at each step that is rounded and at no other. Powers count in hundredths
+//! of a watt up to the value of a window.
 use crate::asking::*;
 use crate::records::*;
 use crate::rules::*;
@@ -106,8 +106,8 @@ fn still() -> [Sample; 5] {
     ]
 }
 
-// The targets stand at 0.17 W at the disturbance time: -17 hundredths * 3/2 = -25.5 go to -25, and -0.5 to
-// 0.
+// The trajectory is at 0.17 W at the disturbance time: -17 hundredths * 3/2 = -25.5 go to -25, and
+// -0.5 to 0.
 #[test]
 fn the_weighed_response(rt: HostRuntime) -> Result<(), Fail> {
     let targets = [target(5_000, 0), target(19_984, 0), target(20_084, 1)];
@@ -121,8 +121,8 @@ fn the_weighed_response(rt: HostRuntime) -> Result<(), Fail> {
     )
 }
 
-// At 5,000 the targets stand at -25.5 hundredths, which go to -25, at the disturbance time at 0: base 0.25
-// W, -0.5 goes to 0.
+// At 5,000 the trajectory is at -25.5 hundredths, which round to -25, at the disturbance time at 0:
+// base 0.25 W, -0.5 goes to 0.
 #[test]
 fn the_targets_at_each_time(rt: HostRuntime) -> Result<(), Fail> {
     let targets = [
@@ -138,8 +138,8 @@ fn the_targets_at_each_time(rt: HostRuntime) -> Result<(), Fail> {
     )
 }
 
-// The targets, turned, stand at -7.16, -7.15 and -1.62 W: raises of 5.54 and 5.53 W, base 2.54 W. From
-// -8.04 W 1 ms of 7.71 W in the mean and 24 ms at 23.46 W: 570.75/25 = 22.83, times 2.
+// The trajectory, turned, is at -7.16, -7.15 and -1.62 W: raises of 5.54 and 5.53 W, base 2.54 W.
+// From -8.04 W 1 ms of 7.71 W in the mean and 24 ms at 23.46 W: 570.75/25 = 22.83, times 2.
 #[test]
 fn targets_count_in_hundredths(rt: HostRuntime) -> Result<(), Fail> {
     let samples = [
@@ -156,8 +156,8 @@ fn targets_count_in_hundredths(rt: HostRuntime) -> Result<(), Fail> {
     )
 }
 
-// Turned, the targets stand at 0.5 hundredths, which go to 1, and at 2.0001, which go to 2: base 18.01 W.
-// (18 * -6.955 + 3 * 11.99)/21 = -4.2486, times 2.
+// Turned, the trajectory is at 0.5 hundredths, which round to 1, and at 2.0001, which round to 2:
+// base 18.01 W. (18 * -6.955 + 3 * 11.99)/21 = -4.2486, times 2.
 #[test]
 fn targets_of_a_high_disturbance_are_turned_first(rt: HostRuntime) -> Result<(), Fail> {
     let samples = [
@@ -177,8 +177,8 @@ fn targets_of_a_high_disturbance_are_turned_first(rt: HostRuntime) -> Result<(),
     )
 }
 
-// -24 W before and -61 W after it: -2,492.5 hundredths at the start go to -2,492. (-1,675.44 - 183)/42 =
-// -44.2486, times 2.
+// -24 W before and -61 W after it: -2,492.5 hundredths at the start go to -2,492. (-1,675.44 -
+// 183)/42 = -44.2486, times 2.
 #[test]
 fn a_window_start_between_samples(rt: HostRuntime) -> Result<(), Fail> {
     let samples = [
@@ -205,8 +205,8 @@ fn brief(power: i32) -> [Sample; 4] {
     ]
 }
 
-// 128.5 hundredths go to 129: (193 + 257)/2 = 225, times 2 is 4.5 W. -71.5 go to -71: (-107 - 143)/2 = -125,
-// times 2 is -2.5 W.
+// 128.5 hundredths go to 129: (193 + 257)/2 = 225, times 2 is 4.5 W. -71.5 go to -71: (-107 -
+// 143)/2 = -125, times 2 is -2.5 W.
 #[test]
 fn a_half_at_a_window_start(rt: HostRuntime) -> Result<(), Fail> {
     delivers(
@@ -227,8 +227,8 @@ fn a_half_at_a_window_start(rt: HostRuntime) -> Result<(), Fail> {
     )
 }
 
-// 0.25 W up to 79,991, then a fall to -0.75 W at 83,991: 24.75 hundredths at 80,001 go to 25, so that the
-// first value is 0.5 W, and goes to 1.
+// 0.25 W up to 79,991, then a fall to -0.75 W at 83,991: 24.75 hundredths at 80,001 go to 25, so
+// that the first value is 0.5 W, and goes to 1.
 #[test]
 fn a_window_end_between_samples(rt: HostRuntime) -> Result<(), Fail> {
     let samples = [

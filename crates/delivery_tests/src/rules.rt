@@ -1,4 +1,4 @@
-// Response rules of the tests' own, behind the interface.
+//! Response rules of the tests' own, behind the interface.
 ghost use Rattle.std.specs.Prelude.{◌≡◌, ℕ};
 ghost use Rattle.delivery_tests.specs.Rules.{growing, same};
 ghost use Rattle.response.specs.Weights.{Weighs};
@@ -7,7 +7,7 @@ use response::rule::ResponseRule;
 use response::setup::Trigger;
 use response::weighing::{Dip, Offset, Weight};
 
-// One weight at every dip and offset.
+/// One weight at every dip and offset.
 #[derive(Clone, Copy)]
 pub struct Constant {
     pub weight: Weight,
@@ -28,7 +28,7 @@ impl ResponseRule for Constant {
     }
 }
 
-// A weight that grows by 1/100 with each ms since the disturbance, up to 3.
+/// A weight that grows by 1/100 with each ms since the disturbance, up to 3.
 #[derive(Clone, Copy)]
 pub struct Growing {
     pub trigger: Option<Trigger>,

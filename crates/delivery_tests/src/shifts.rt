@@ -1,4 +1,5 @@
-// The shift of a rule with a trigger: the windows begin later or earlier, down to before the disturbance.
+//! The shift of a rule with a trigger: the windows begin later or earlier, down to before the
+//! disturbance.
 use crate::asking::*;
 use crate::long::*;
 use crate::records::*;
@@ -16,8 +17,8 @@ fn rated(rate: u32, samples: &[Sample]) -> Case<'_> {
     with(Proposal { rate, ..PLAIN }, plain(samples, Service::R6))
 }
 
-// A dip of 200 at 20,025, 24 ms after the disturbance, less 5 ms: from 20,020 on 30 ms from 400 W to
-// 1,000 W and 26 ms level, 47,000/56 = 839.29, times 2. At rate 125 it is less 400 ms.
+// A dip of 200 at 20,025, 24 ms after the disturbance, less 5 ms: from 20,020 on 30 ms from 400 W
+// to 1,000 W and 26 ms level, 47,000/56 = 839.29, times 2. At rate 125 it is less 400 ms.
 #[test]
 fn the_windows_move_with_the_trigger_time(rt: HostRuntime) -> Result<(), Fail> {
     let a = record_a();
@@ -29,8 +30,9 @@ fn the_windows_move_with_the_trigger_time(rt: HostRuntime) -> Result<(), Fail> {
     refuses(&rt, switching(rated(125, &a)), 16)
 }
 
-// The dip of 200 is reached only on the sample at 20,050: from 20,045 on (5 * 950 + 23 * 1,000)/28, times
-// 2. One of 250 on the sample of the other record: from 20,040 on (10 * 900 + 26 * 1,000)/36, times 2.
+// The dip of 200 is reached only on the sample at 20,050: from 20,045 on (5 * 950 + 23 * 1,000)/28,
+// times 2. One of 250 on the sample of the other record: from 20,040 on (10 * 900 + 26 * 1,000)/36,
+// times 2.
 #[test]
 fn a_trigger_may_just_be_reached(rt: HostRuntime) -> Result<(), Fail> {
     let samples = [
@@ -57,8 +59,8 @@ fn a_trigger_may_just_be_reached(rt: HostRuntime) -> Result<(), Fail> {
     )
 }
 
-// The dip is 250 at the disturbance time, so the shift is -5: 320 W at 19,996, 200 W at 20,000, 1,000 W at
-// 20,002 and level: (4 * 260 + 2 * 600 + 18 * 1,000)/24 = 843.33, times 2.
+// The dip is 250 at the disturbance time, so the shift is -5: 320 W at 19,996, 200 W at 20,000,
+// 1,000 W at 20,002 and level: (4 * 260 + 2 * 600 + 18 * 1,000)/24 = 843.33, times 2.
 #[test]
 fn a_negative_shift_begins_before_the_disturbance(rt: HostRuntime) -> Result<(), Fail> {
     delivers(
@@ -84,8 +86,8 @@ fn a_negative_shift_begins_before_the_disturbance(rt: HostRuntime) -> Result<(),
     )
 }
 
-// 50,000/9,000 is 5.6, so 6: from 19,995 on (5 * 275 + 2 * 600 + 18 * 1,000)/25 = 823, times 2. 50,000/3,000
-// is 16.7, so 17: from 19,984 on, where the gap is wide.
+// 50,000/9,000 is 5.6, so 6: from 19,995 on (5 * 275 + 2 * 600 + 18 * 1,000)/25 = 823, times 2.
+// 50,000/3,000 is 16.7, so 17: from 19,984 on, where the gap is wide.
 #[test]
 fn the_quotient_of_the_shift_is_rounded_up(rt: HostRuntime) -> Result<(), Fail> {
     let c = record_c();
@@ -212,8 +214,9 @@ fn the_base_window_does_not_move(rt: HostRuntime) -> Result<(), Fail> {
     )
 }
 
-// 320 W and 200 W count once, 1,000 W double: (1,040 + 2,200 + 36,000)/24 = 1,635, times 2. With 600 W at
-// the disturbance time, which counts double: (1,040 + 700 + 1,600 + 36,000)/24 = 1,639.17, times 2.
+// 320 W and 200 W count once, 1,000 W double: (1,040 + 2,200 + 36,000)/24 = 1,635, times 2. With
+// 600 W at the disturbance time, which counts double: (1,040 + 700 + 1,600 + 36,000)/24 = 1,639.17,
+// times 2.
 #[test]
 fn samples_are_weighed_from_the_disturbance_time_on(rt: HostRuntime) -> Result<(), Fail> {
     delivers(
@@ -248,8 +251,8 @@ fn the_trigger_is_the_rules_own(rt: HostRuntime) -> Result<(), Fail> {
     )
 }
 
-// At 20,050 the offset is 49, the weight 1.49: from 596 W at 20,020 (30 * 1,043 + 26 * 1,490)/56 = 1,250.54,
-// times 2.
+// At 20,050 the offset is 49, the weight 1.49: from 596 W at 20,020 (30 * 1,043 + 26 * 1,490)/56 =
+// 1,250.54, times 2.
 #[test]
 fn the_offset_is_counted_from_the_disturbance_time(rt: HostRuntime) -> Result<(), Fail> {
     let rule = Growing { trigger: SWITCH };
@@ -261,8 +264,8 @@ fn the_offset_is_counted_from_the_disturbance_time(rt: HostRuntime) -> Result<()
 }
 
 // The dip is 200 at the disturbance time, so the shift is -1. The first window from 20,000 on:
-// (50,000 + 5,999 * 100,000)/6,000 = 99,991.67, times 2. The second to 80,000, where the power is 35,201.2 W:
-// (100,000 + 53,999 * 67,600.6)/54,000 = 67,601.2, times 2.
+// (50,000 + 5,999 * 100,000)/6,000 = 99,991.67, times 2. The second to 80,000, where the power is
+// 35,201.2 W: (100,000 + 53,999 * 67,600.6)/54,000 = 67,601.2, times 2.
 #[test]
 fn both_windows_begin_earlier(rt: HostRuntime) -> Result<(), Fail> {
     let settings = Proposal {
@@ -281,8 +284,9 @@ fn both_windows_begin_earlier(rt: HostRuntime) -> Result<(), Fail> {
 }
 
 // The dip is 300 on the sample at 24,001 alone: 4,000 - 15 ms. The first window from 29,986 on, at
-// 102,496.25 W: (50,015 * 108,748.125 + 3,985 * 114,003.75)/54,000 = 109,135.97, times 2. The second from
-// 83,986 on, at 113,007.5 W, to the recovery: (236,015 * 54,003.75 - 5,000)/236,016 = 54,003.5, times 2.
+// 102,496.25 W: (50,015 * 108,748.125 + 3,985 * 114,003.75)/54,000 = 109,135.97, times 2. The
+// second from 83,986 on, at 113,007.5 W, to the recovery: (236,015 * 54,003.75 - 5,000)/236,016 =
+// 54,003.5, times 2.
 #[test]
 fn both_windows_begin_later(rt: HostRuntime) -> Result<(), Fail> {
     let settings = Proposal {

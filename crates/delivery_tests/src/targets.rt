@@ -1,5 +1,5 @@
-// Targets: they raise the base where they rise, have to reach over the base samples and the disturbance,
-// and have to be a timeline.
+//! Targets: they raise the base where they rise, have to reach over the base samples and the
+//! disturbance, and have to be a timeline.
 use crate::asking::*;
 use crate::records::*;
 use recording::sample::Sample;
@@ -50,7 +50,8 @@ fn falling_targets_leave_the_base(rt: HostRuntime) -> Result<(), Fail> {
     )
 }
 
-// 60 - 0 at 5,000, and nothing at 6,000, where the targets stand at 66.67: base 80 W, 1,359.73 - 160.
+// 60 - 0 at 5,000, and nothing at 6,000, where the trajectory is at 66.67: base 80 W, 1,359.73 -
+// 160.
 #[test]
 fn each_base_sample_is_raised_for_itself(rt: HostRuntime) -> Result<(), Fail> {
     let samples = [
@@ -84,8 +85,8 @@ fn targets_that_do_not_reach_are_refused(rt: HostRuntime) -> Result<(), Fail> {
     refused_with(&rt, &a, &[target(20_001, 0)], 12)
 }
 
-// The disturbance and the one base sample are at 19,301: base 700 W, (39 * 150 + 26 * 300)/65 = 210,
-// times 2.
+// The disturbance and the one base sample are at 19,301: base 700 W, (39 * 150 + 26 * 300)/65 =
+// 210, times 2.
 #[test]
 fn one_target_reaches_its_own_time(rt: HostRuntime) -> Result<(), Fail> {
     let b = record_b();
@@ -103,9 +104,9 @@ fn one_target_reaches_its_own_time(rt: HostRuntime) -> Result<(), Fail> {
     )
 }
 
-// Base samples at 19,000 and 19,301: 7 + 50 and 700, 378.5 in the mean; (39 * 471.5 + 26 * 621.5)/65 =
-// 531.5, times 2. Where the targets stand at 49.22 at 19,000, 7.78 and 700: 353.89 in the mean, 556.11,
-// times 2.
+// Base samples at 19,000 and 19,301: 7 + 50 and 700, 378.5 in the mean; (39 * 471.5 + 26 *
+// 621.5)/65 = 531.5, times 2. If the trajectory is at 49.22 at 19,000, 7.78 and 700: 353.89 in the
+// mean, 556.11, times 2.
 #[test]
 fn base_samples_on_targets(rt: HostRuntime) -> Result<(), Fail> {
     let b = record_b();
@@ -158,8 +159,8 @@ fn more_targets_than_places_are_refused(rt: HostRuntime) -> Result<(), Fail> {
     )
 }
 
-// From -1,000,000,000 W at 0 to 1,000,000,000 W at 1,200,000 the base is raised by 15,001/1,200,000 of
-// 2,000,000,000 W, 25,001,666.67 W; the figure is twice 679.8667 less that.
+// From -1,000,000,000 W at 0 to 1,000,000,000 W at 1,200,000 the base is raised by 15,001/1,200,000
+// of 2,000,000,000 W, 25,001,666.67 W; the figure is twice 679.8667 less that.
 #[test]
 fn the_widest_targets_and_a_place_beyond_the_count(rt: HostRuntime) -> Result<(), Fail> {
     let a = record_a();
@@ -178,7 +179,7 @@ fn the_widest_targets_and_a_place_beyond_the_count(rt: HostRuntime) -> Result<()
     )
 }
 
-// What stands in the table is not looked at.
+// The content of the table is not looked at.
 #[test]
 fn a_count_of_0_is_no_target(rt: HostRuntime) -> Result<(), Fail> {
     let a = record_a();

@@ -1,4 +1,5 @@
-// The verdict: how a delivery stands to the enabled amount, from the least delivery to the greatest.
+//! The verdict: a delivery compared with the enabled amount, from the least delivery to the
+//! greatest.
 use crate::asking::*;
 use crate::long::*;
 use crate::records::*;
@@ -18,7 +19,8 @@ fn enabled(samples: &[Sample], service: Service, watts: i64) -> Case<'_> {
     }
 }
 
-// From 20 W at 20,001 to 1,000 W at 20,050, then 26 ms level: (24,990 + 26,000)/75 = 679.87, times 2.
+// From 20 W at 20,001 to 1,000 W at 20,050, then 26 ms level: (24,990 + 26,000)/75 = 679.87, times
+// 2.
 #[test]
 fn a_delivery_is_met_level_or_short(rt: HostRuntime) -> Result<(), Fail> {
     let a = record_a();
@@ -133,7 +135,8 @@ fn the_greatest_delivery_and_the_least_over_both_windows(rt: HostRuntime) -> Res
     )
 }
 
-// 679.8667 of 1,000, as in record A: of 4,000,000,000 at weight 1 and of 12,000,000,000 at weight 3.
+// 679.8667 of 1,000, as in record A: of 4,000,000,000 at weight 1 and of 12,000,000,000 at weight
+// 3.
 #[test]
 fn great_deliveries_between_samples(rt: HostRuntime) -> Result<(), Fail> {
     let samples = [

@@ -1,4 +1,4 @@
-// How responses are weighed, by the variable rule and by rules of the tests' own.
+//! How responses are weighed, by the variable rule and by rules of the tests' own.
 use crate::asking::*;
 use crate::records::*;
 use crate::rules::*;
@@ -8,8 +8,8 @@ use response::settings::Proposal;
 use response::weighing::Weight;
 use std::test::Fail;
 
-// 1,359.73 at weight 1, so 2,719.47 at 2 and 2,039.6 at 3/2. With the window from 20,020 on 1,678.57 at
-// weight 1, so 3,357.14 at 2.
+// 1,359.73 at weight 1, so 2,719.47 at 2 and 2,039.6 at 3/2. With the window from 20,020 on
+// 1,678.57 at weight 1, so 3,357.14 at 2.
 #[test]
 fn one_weight_at_every_sample(rt: HostRuntime) -> Result<(), Fail> {
     let a = record_a();
@@ -53,8 +53,9 @@ fn uneven() -> [Sample; 7] {
     ]
 }
 
-// 90/150, raised to 1; 240/200; 300/150, with the ramp dip held at 400; 300/90, cut to 3. 1,000, 1,560,
-// 1,000 and 2,100 W: (4 * 600 + 15 * 1,280 + 20 * 1,280 + 20 * 1,550 + 9 * 2,100)/68 = 1,427.94, times 2.
+// 90/150, raised to 1; 240/200; 300/150, with the ramp dip held at 400; 300/90, cut to 3. 1,000,
+// 1,560, 1,000 and 2,100 W: (4 * 600 + 15 * 1,280 + 20 * 1,280 + 20 * 1,550 + 9 * 2,100)/68 =
+// 1,427.94, times 2.
 #[test]
 fn weights_of_the_variable_rule(rt: HostRuntime) -> Result<(), Fail> {
     let settings = Proposal {
@@ -111,8 +112,8 @@ fn a_dip_on_the_dead_band_weighs_1(rt: HostRuntime) -> Result<(), Fail> {
     )
 }
 
-// At the disturbance time 150/151, raised to 1; at 19,340 the ramp dip is held at 500: 500/250. 693 and
-// 1,986 W over the base of 7 W: (39 * 1,339.5 + 26 * 1,986)/65 = 1,598.1, times 2.
+// At the disturbance time 150/151, raised to 1; at 19,340 the ramp dip is held at 500: 500/250. 693
+// and 1,986 W over the base of 7 W: (39 * 1,339.5 + 26 * 1,986)/65 = 1,598.1, times 2.
 #[test]
 fn a_sample_at_the_disturbance_time_has_offset_0(rt: HostRuntime) -> Result<(), Fail> {
     let settings = Proposal {

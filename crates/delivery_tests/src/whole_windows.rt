@@ -1,4 +1,4 @@
-// Both windows of each group of services, in records that reach exactly to the end of the second.
+//! Both windows of each group of services, in records that reach exactly to the end of the second.
 use crate::asking::*;
 use crate::long::*;
 use crate::records::*;
@@ -7,9 +7,9 @@ use figure::report::Verdict;
 use response::service::Service;
 use std::test::Fail;
 
-// The weight is 1 for 400 ms, grows by 1/8 at each sample to 3 at 1,200 ms and stays: from 100,000 W to
-// 300,000 W, (50,000 + 800,000 + 3,000,000 + 96 * 300,000 + 150,000)/120 = 273,333.33, times 2. Then
-// from 300,000 W to 105,600 W, 202,800 in the mean, times 2.
+// The weight is 1 for 400 ms, grows by 1/8 at each sample to 3 at 1,200 ms and stays: from 100,000
+// W to 300,000 W, (50,000 + 800,000 + 3,000,000 + 96 * 300,000 + 150,000)/120 = 273,333.33, times
+// 2. Then from 300,000 W to 105,600 W, 202,800 in the mean, times 2.
 #[test]
 fn fast_services(rt: HostRuntime) -> Result<(), Fail> {
     let expected = both(None, 546_667, 405_600, 405_600, Verdict::Met);
@@ -25,8 +25,8 @@ fn fast_services(rt: HostRuntime) -> Result<(), Fail> {
     )
 }
 
-// Three times the power: 3 * 108,250 in the middle of the first window, 3 * 55,000 in that of the second,
-// both times 2.
+// Three times the power: 3 * 108,250 in the middle of the first window, 3 * 55,000 in that of the
+// second, both times 2.
 #[test]
 fn slow_services(rt: HostRuntime) -> Result<(), Fail> {
     let expected = both(None, 649_500, 330_000, 330_000, Verdict::Met);
@@ -42,8 +42,8 @@ fn slow_services(rt: HostRuntime) -> Result<(), Fail> {
     )
 }
 
-// Three times the power: 3 * 145,000 in the middle of the first window, times 2, and 3 * 100,000 in that
-// of the second, times 1.
+// Three times the power: 3 * 145,000 in the middle of the first window, times 2, and 3 * 100,000 in
+// that of the second, times 1.
 #[test]
 fn delayed_services(rt: HostRuntime) -> Result<(), Fail> {
     let expected = both(None, 870_000, 300_000, 300_000, Verdict::Met);
@@ -72,8 +72,9 @@ fn a_record_that_ends_earlier_is_refused(rt: HostRuntime) -> Result<(), Fail> {
     )
 }
 
-// At 24,000 the dip of 200 weighs 3: 6,000 W; at 28,000 that of 300 weighs 350/150: 7,000 W. 6,500.25 W at
-// 26,001; 1,999 ms to 7,000 W and 1,001 ms level: (13,493,499.875 + 7,007,000)/3,000 = 6,833.5, times 2.
+// At 24,000 the dip of 200 weighs 3: 6,000 W; at 28,000 that of 300 weighs 350/150: 7,000 W.
+// 6,500.25 W at 26,001; 1,999 ms to 7,000 W and 1,001 ms level: (13,493,499.875 + 7,007,000)/3,000
+// = 6,833.5, times 2.
 #[test]
 fn an_empty_second_window_has_no_value(rt: HostRuntime) -> Result<(), Fail> {
     let slow = [

@@ -1,9 +1,9 @@
-// Where a straight line has reached a goal, found by one division.
+//! The first time at which a straight line reaches a goal, found by one division.
 ghost use Rattle.std.specs.Prelude.{◌≤◌, ◌<◌};
 ghost use Rattle.exact.specs.First.{FirstOrNone};
 ghost use Rattle.disturbance.specs.Crossing.{Reached};
 
-// A straight line of heights, from x at start to y at end.
+// A straight line of heights in mHz, from `x` at `start` to `y` at `end`, both in ms.
 #[derive(Clone, Copy)]
 pub(crate) struct Slope {
     pub(crate) start: u32,
@@ -15,8 +15,8 @@ pub(crate) struct Slope {
 }
 
 impl Slope {
-    // The first whole millisecond from a time on at which the line, taken end - start times so that
-    // it stays whole, is at least goal.
+    // The first whole millisecond from a time on at which the line is at least the goal. Line and
+    // goal are multiplied by `end` - `start`, so that they are whole.
     pub(crate) fn first_reached(self, goal: u64, from: u32) -> Option<u32>
         requires { (self.start ≤ from) × (from ≤ self.end) }
         ensures { FirstOrNone (Reached self.start self.x self.end self.y goal from) result }

@@ -1,13 +1,14 @@
-// The direction of a disturbance, and what frequency and power are by it.
+//! The direction of a disturbance, and how frequency and power count by it.
 ghost use Rattle.std.specs.Prelude.{◌≡◌, Some};
 ghost use Rattle.disturbance.specs.Direction.{dip as dip_of, push as push_of, word};
 ghost use Rattle.disturbance.specs.Passing.{turned};
 
 use std::fmt;
 
-// The frequency that a network keeps, in mHz.
+/// The nominal frequency of the network, in mHz.
 pub const NOMINAL: u32 = 50_000;
 
+/// Whether the frequency left the band downwards or upwards. Shown as `low` or `high`.
 #[derive(Clone, Copy, Debug, PartialEq, Eq)]
 pub enum Direction {
     Low,
@@ -15,7 +16,7 @@ pub enum Direction {
 }
 
 impl Direction {
-    // The side of nominal on which the network has recovered.
+    // The other direction: the side of nominal on which the network has recovered.
     pub(crate) fn other(self) -> Direction
         ensures { result ≡ turned self }
     {
@@ -37,8 +38,8 @@ impl fmt::Display for Direction {
     }
 }
 
-// How far a frequency lies from nominal, in mHz, counted on the side of the disturbance. Wide
-// enough for every frequency.
+/// How far a frequency in mHz is from nominal, on the side of the disturbance; in mHz, below 0 on
+/// the other side. Any frequency fits, also one outside its limits.
 pub fn dip(direction: Direction, frequency: u32) -> i64
     ensures dip_on_the_side_of_the_disturbance { result ≡ dip_of direction frequency }
 {
@@ -48,7 +49,7 @@ pub fn dip(direction: Direction, frequency: u32) -> i64
     }
 }
 
-// The power that works against the disturbance, in W. Wide enough for every power.
+/// The power against the disturbance, in W. Any power fits, also one outside its limits.
 pub fn push(direction: Direction, power: i32) -> i64
     ensures power_against_the_disturbance { result ≡ push_of direction power }
 {

@@ -1,4 +1,4 @@
-// The disturbance on a trace: its time and its direction.
+//! The disturbance on a trace: its time and its direction.
 ghost use Rattle.std.specs.Prelude.{◌≡◌, ◌+◌, true, MatchOption};
 ghost use Rattle.exact.specs.First.{FirstOrNone};
 ghost use Rattle.disturbance.specs.Band.{highest, Inside};
@@ -12,15 +12,18 @@ use crate::scan::first_found;
 use crate::stretch::Stretch;
 use crate::trace::Trace;
 
+/// A departure from the band.
 #[derive(Clone, Copy, Debug, PartialEq, Eq)]
 pub struct Disturbance {
+    /// The first whole millisecond at which the frequency is outside, in ms.
     pub time: u32,
+    /// The side on which it is outside.
     pub direction: Direction,
 }
 
 impl Stretch {
     // The first whole millisecond at which the line to the later sample is past the edge of the
-    // band. The band reaches as far to either side, so its edge has one height.
+    // band. The band is as wide on either side, so its edge has one height.
     fn first_past_edge(self, direction: Direction) -> Option<u32>
         ensures { FirstOrNone (PassedBetween direction highest true self.before self.after
             (self.before.time + 1)) result }
@@ -32,7 +35,7 @@ impl Stretch {
         })
     }
 
-    // The disturbance on the stretch, where the sample before is inside and the one after is outside.
+    // The disturbance on the stretch, if it begins inside and ends outside.
     fn leaving(self) -> Option<Disturbance>
         ensures { MatchOption result (Inside self.before → Inside self.after) (λ d. LeavesBy self.before self.after d) }
     {
@@ -40,13 +43,13 @@ impl Stretch {
             return None;
         }
         let direction = side(self.after)?;
-        // From inside to outside the line passes the edge, so that there is a time.
+        // The line passes the edge on the way out, so there is a time.
         let time = self.first_past_edge(direction).unwrap();
         Some(Disturbance { time, direction })
     }
 }
 
-// The disturbance: at the first place where a sample inside is followed by one outside.
+/// The disturbance on the first stretch that begins inside and ends outside, or none.
 pub fn find_disturbance(trace: Trace) -> Option<Disturbance>
     ensures first_departure_from_the_band_or_none { Answers trace.entry.samples.now result }
     ensures as_computed_from_the_samples { result ≡ disturbance_of trace.entry.samples.now }
@@ -54,7 +57,7 @@ pub fn find_disturbance(trace: Trace) -> Option<Disturbance>
     first_found(trace, |stretch| stretch.leaving())
 }
 
-// What is answered for sound samples is the only answer, and can be worked out from them.
+/// Sound samples have one disturbance at most, and it can be computed from them.
 pub fn disturbance_laws()
     ensures one_disturbance_and_it_can_be_worked_out { DisturbanceLaws }
 {}

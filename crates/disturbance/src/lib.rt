@@ -1,4 +1,7 @@
-// The disturbance on a trace of samples, the recovery from it and the trigger time.
+//! The frequency disturbance on a trace of samples: its time and direction, the dip and the push,
+//! the recovery and the trigger time.
+//! For dockets and deliveries. docs/RULES.md states the rules under Disturbance, recovery and
+//! trigger time.
 #![tactic(auto)]
 
 mod band;

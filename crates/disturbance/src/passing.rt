@@ -1,5 +1,5 @@
-// The first whole millisecond at which the line has passed a mark. Dips are counted as heights,
-// which are dips raised by nominal: never negative, and one question for either direction.
+//! The first whole millisecond at which the line is past a threshold. A height is a dip plus
+//! nominal: never negative, and the same for both directions.
 ghost use Rattle.std.specs.Prelude.{◌≡◌, ◌-◌, ◌^◌, ◌≤◌};
 ghost use Rattle.exact.specs.First.{FirstOrNone};
 ghost use Rattle.disturbance.specs.Passing.{height, goal, level, is_above, PassedBetween, PassedFrom};
@@ -10,15 +10,15 @@ use crate::scan::first_found;
 use crate::stretch::Stretch;
 use crate::trace::Trace;
 
-// What a height has to come to: a level, or more than it.
+// A threshold for a height: at least a level in mHz, or above it.
 #[derive(Clone, Copy)]
 pub(crate) enum Mark {
     Reach(u64),
     Exceed(u64),
 }
 
-// What is looked for on the line: that the height on one side of nominal is past a mark, from a
-// time on.
+// A search along the line: for the height on one side of nominal to be past a threshold, from a
+// time in ms on.
 #[derive(Clone, Copy)]
 pub(crate) struct Search {
     pub(crate) side: Direction,
@@ -27,7 +27,7 @@ pub(crate) struct Search {
     ghost low: { level mark ≤ 2 ^ 33 },
 }
 
-// The dip of a frequency, raised by nominal.
+// The height of a frequency, in mHz.
 fn height_of(side: Direction, frequency: u32) -> u32
     requires { frequency ≤ 100000 }
     ensures is { result ≡ height side frequency }
@@ -55,7 +55,7 @@ impl Stretch {
         }
     }
 
-    // The least number past a mark, where heights are taken as often as there are milliseconds.
+    // The least height past the threshold, multiplied by the length of the stretch in ms.
     fn goal(self, sought: Search) -> u64
         ensures { result ≡ goal (level sought.mark) (is_above sought.mark) (self.after.time - self.before.time) }
     {
@@ -66,8 +66,7 @@ impl Stretch {
         }
     }
 
-    // The first whole millisecond, after the one sample and not after the other, that is searched
-    // for.
+    // The first whole millisecond found after the one sample and up to the other, or none.
     pub(crate) fn first_passed(self, sought: Search) -> Option<u32>
         ensures { FirstOrNone (PassedBetween sought.side (level sought.mark) (is_above sought.mark)
             self.before self.after sought.from) result }
@@ -81,7 +80,7 @@ impl Stretch {
     }
 }
 
-// The first whole millisecond of a trace that is searched for.
+// The first whole millisecond found on a trace, or none.
 pub(crate) fn first_on_line(trace: Trace, sought: Search) -> Option<u32>
     ensures { FirstOrNone (PassedFrom trace.entry.samples.now sought.side (level sought.mark) (is_above sought.mark)
         sought.from) result }

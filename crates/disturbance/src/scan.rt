@@ -1,15 +1,15 @@
-// One pass over the stretches of a trace.
+//! One pass over the stretches of a trace.
 ghost use Rattle.disturbance.specs.Stretches.{FirstFound};
 
 use crate::stretch::Stretch;
 use crate::trace::Trace;
 
-// What is found on the first stretch on which anything is, or none.
+// What `find` finds on the first stretch where it finds something, or none.
 pub(crate) fn first_found<T, F: Fn(Stretch) -> Option<T>>(trace: Trace, find: F) -> Option<T>
     requires { F.IsAlwaysCallable find }
     ensures { FirstFound (F.post find) trace.entry.samples.now result }
 {
-    // Not by `find_map`: its closure would have to require of a pair what the loop knows of it.
+    // A loop, since the closure of `find_map` could not know that the pair is in order.
     for pair in trace.samples.windows(2) {
         let stretch = Stretch {
             before: pair[0],

@@ -1,4 +1,5 @@
-// A stretch of a trace: two neighbouring samples, between which the frequency follows a straight line.
+//! A stretch of a trace: two neighbouring samples. The frequency between them follows the straight
+//! line.
 ghost use Rattle.std.specs.Prelude.{◌<◌};
 ghost use Rattle.disturbance.specs.Trace.{Within};
 

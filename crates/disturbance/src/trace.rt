@@ -1,12 +1,13 @@
-// A trace: samples within their limits, at times that strictly rise.
+//! A trace: samples within their limits, at times that strictly rise.
 ghost use Rattle.std.specs.Prelude.{◌≡◌, ℕ, ◌<◌, length, Decides, MatchOption};
 ghost use Rattle.disturbance.specs.Trace.{at, Rising, Sound, Within};
 
 use recording::sample::{Sample, is_frequency, is_power, is_time};
 
-// A trace can only be made of samples that are sound, so whatever is asked of one may rely on it.
+/// Sound samples: whoever has a trace may rely on their limits and their order.
 #[derive(Clone, Copy)]
 pub struct Trace<'a> {
+    /// The samples, in order of their times.
     pub samples: &'a [Sample],
     ghost sound: { Sound samples.now },
 }
@@ -25,15 +26,14 @@ fn are_within(samples: &[Sample]) -> bool
     samples.iter().all(|sample| is_within(*sample))
 }
 
-// Whether times strictly rise.
+// Whether each sample is later than the one before.
 fn are_rising(samples: &[Sample]) -> bool
     ensures { Decides result (Rising samples.now) }
 {
     samples.is_sorted_by(|before, after| before.time < after.time)
 }
 
-// Whether samples are sound, so that `Trace { samples }` may be made of them. A timeline asks the same of
-// any entries of a table; a trace knows no table, and its crate stands beside that of timelines.
+/// Whether samples are within their limits and at times that strictly rise.
 pub fn is_sound(samples: &[Sample]) -> bool
     ensures true_exactly_where_the_samples_are_sound { Decides result (Sound samples.now) }
 {
@@ -41,12 +41,11 @@ pub fn is_sound(samples: &[Sample]) -> bool
 }
 
 impl<'a> Trace<'a> {
-    // A trace of samples that are sound, or none.
+    /// The trace of sound samples, or none if they are not sound.
     pub fn new(samples: &'a [Sample]) -> Option<Trace<'a>>
         ensures trace_of_the_samples_or_none_where_unsound { MatchOption result (Sound samples.now → ⊥)
             (λ trace. trace.samples.now ≡ samples.now) }
     {
-        // Not by `then`: its closure would need a `requires` that says what the `if` says.
         if is_sound(samples) {
             Some(Trace { samples })
         } else {

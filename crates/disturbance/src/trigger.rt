@@ -1,4 +1,4 @@
-// The trigger time of a disturbance.
+//! The trigger time of a disturbance.
 ghost use Rattle.std.specs.Prelude.{◌≡◌, ℕ, ◌+◌, true, false, Decides, Option as Maybe};
 ghost use Rattle.exact.specs.First.{FirstOrNone};
 ghost use Rattle.disturbance.specs.Direction.{nominal};
@@ -17,8 +17,8 @@ fn is_before(time: u32, recovery: Option<u32>) -> bool
     recovery.is_none_or(|end| time < end)
 }
 
-// The first whole millisecond from the disturbance time on at which the height of the line is at
-// least that of the trigger, whether the network has recovered or not.
+// The first whole millisecond from the disturbance time on at which the dip is at least the
+// trigger, whether before recovery or not.
 fn first_reaching(trace: Trace, disturbance: Disturbance, trigger: u32) -> Option<u32>
     ensures { FirstOrNone (PassedFrom trace.entry.samples.now disturbance.direction (nominal + trigger)
         false disturbance.time) result }
@@ -32,8 +32,8 @@ fn first_reaching(trace: Trace, disturbance: Disturbance, trigger: u32) -> Optio
     first_on_line(trace, sought)
 }
 
-// The first whole millisecond from the disturbance time on, before any recovery, at which the line's
-// dip is at least the trigger, or none.
+/// The first whole millisecond from the disturbance time on, before any recovery, at which the
+/// line's dip is at least the trigger, or none. Times are in ms, the trigger in mHz.
 pub fn trigger_time(
     trace: Trace,
     disturbance: Disturbance,

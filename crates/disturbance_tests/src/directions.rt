@@ -1,4 +1,4 @@
-// Dip and push in either direction.
+//! Dip and push in either direction.
 use disturbance::direction::{Direction, dip, push};
 
 #[test]

@@ -1,4 +1,4 @@
-// The disturbance time and direction.
+//! The disturbance time and direction.
 use crate::traces::{at, high, is_disturbed, is_undisturbed, low, record_a};
 use std::test::Fail;
 

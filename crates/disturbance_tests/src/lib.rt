@@ -1,5 +1,6 @@
-// Examples of traces, disturbances, recoveries and trigger times. Every expected time was worked out by
-// hand from the slope of the line.
+//! Examples of traces, disturbances, recoveries and trigger times. Every expected time was worked
+//! out by hand from the slope of the line.
+//! They try the rules of docs/RULES.md under Disturbance, recovery and trigger time.
 #![tactic(auto)]
 
 #[cfg(test)]

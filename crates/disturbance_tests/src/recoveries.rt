@@ -1,4 +1,4 @@
-// The recovery: the first whole millisecond after the disturbance time with the dip below 0.
+//! The recovery: the first whole millisecond after the disturbance time with the dip below 0.
 use crate::traces::{at, high, low, record_a, recovers};
 use recording::sample::Sample;
 use std::test::Fail;
@@ -8,7 +8,8 @@ fn from_nominal(second: u32, third: u32, last: u32) -> [Sample; 4] {
     [at(0, 50_000), at(10, second), at(20, third), at(30, last)]
 }
 
-// It falls by 20 a ms, so that the edge is passed after 7.5 ms; then it goes to the last two samples.
+// It falls by 20 a ms, so that the edge is passed after 7.5 ms; then it goes to the last two
+// samples.
 fn dipped(third: u32, last: u32) -> [Sample; 4] {
     from_nominal(49_800, third, last)
 }
@@ -65,8 +66,8 @@ fn a_record_that_ends_before_has_none(rt: HostRuntime) -> Result<(), Fail> {
     recovers(&rt, &[at(0, 50_000), at(10, 50_200)], high(8), None)
 }
 
-// Before the disturbance the frequency is above 50,000 already. 110 a ms either way: past the edge after
-// 2.3 ms, back on 50,000 after 9.1 ms.
+// Before the disturbance the frequency is above 50,000 already. 110 a ms either way: past the edge
+// after 2.3 ms, back on 50,000 after 9.1 ms.
 #[test]
 fn what_lies_before_the_disturbance_does_not_count(rt: HostRuntime) -> Result<(), Fail> {
     recovers(

@@ -1,4 +1,4 @@
-// Which samples make a trace.
+//! Which samples make a trace.
 use crate::traces::at;
 use disturbance::trace::is_sound;
 use recording::sample::Sample;

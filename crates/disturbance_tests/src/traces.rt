@@ -1,4 +1,4 @@
-// What the examples share: samples, traces and what is expected of them.
+//! What the examples share: samples, traces and the checks of answers.
 use disturbance::direction::Direction;
 use disturbance::disturbance::{Disturbance, find_disturbance};
 use disturbance::recovery::recovery;
@@ -8,7 +8,7 @@ use recording::sample::Sample;
 use std::process::Abort;
 use std::test::Fail;
 
-// Power has no part in where the line goes.
+// Power does not matter to the line.
 pub(crate) fn at(time: u32, frequency: u32) -> Sample {
     Sample {
         time,
@@ -27,7 +27,7 @@ pub(crate) fn record_a() -> [Sample; 4] {
     ]
 }
 
-// Two names in place of a parameter, so that an example says its side in one word.
+// Two names, so that an example names its side in one word.
 pub(crate) fn low(time: u32) -> Disturbance {
     Disturbance {
         time,

@@ -1,5 +1,5 @@
-// The trigger time: the first whole millisecond from the disturbance time on, before any recovery, with
-// the dip at least the trigger.
+//! The trigger time: the first whole millisecond from the disturbance time on, before any recovery,
+//! with the dip at least the trigger.
 use crate::traces::{at, high, low, record_a, triggers};
 use std::test::Fail;
 

@@ -1,4 +1,4 @@
-// Closing a docket on the disturbance of its samples.
+//! Closing a docket on the disturbance of its samples.
 ghost use Rattle.std.specs.Prelude.{◌≡◌, take, Err, MatchResult};
 ghost use Rattle.timeline.specs.Orders.{Sound};
 ghost use Rattle.timeline.specs.Samples.{samples};
@@ -10,7 +10,7 @@ use recording::refusal::Reason;
 use recording::sample::Sample;
 use timeline::fault::check_table;
 
-// The disturbance to close on, or why there is none.
+// The disturbance to close on, or the reason for the refusal: 1 or 7.
 pub(crate) fn closing_disturbance(table: &[Sample], count: usize) -> Result<Disturbance, Reason>
     ensures own { Sound samples count table.now → MatchResult result
         (λ d. Disturbed (take count table.now) d)
@@ -21,8 +21,7 @@ pub(crate) fn closing_disturbance(table: &[Sample], count: usize) -> Result<Dist
     counted_disturbance(table, count).ok_or(Reason::NoDisturbance)
 }
 
-// The disturbance of the counted samples of a table that is theirs. They are known to be sound here,
-// and `Trace::new` would check them again.
+// The disturbance of the counted samples of a sound table.
 fn counted_disturbance(table: &[Sample], count: usize) -> Option<Disturbance>
     requires { Sound samples count table.now }
     ensures { Answers (take count table.now) result }

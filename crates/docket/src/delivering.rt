@@ -1,4 +1,5 @@
-// A delivery on a closed docket: the table has to be the docket's, and the figure is that of its counted samples.
+//! A delivery on a closed docket: the table must be the docket's; its counted samples are
+//! delivered.
 ghost use Rattle.std.specs.Prelude.{◌≡◌, take, Some, Decides, MatchResult};
 ghost use Rattle.disturbance.specs.Disturbance.{Disturbed, disturbance_of};
 ghost use Rattle.figure.specs.Asked.{asked};
@@ -21,7 +22,7 @@ fn has_disturbance(trace: Trace, disturbance: Disturbance) -> bool
     find_disturbance(trace) == Some(disturbance)
 }
 
-// The counted samples of a table, where they have the disturbance that a docket was closed on.
+// The counted samples of a table, if they have the disturbance that the docket was closed on.
 pub(crate) fn closed_trace(
     table: &[Sample],
     count: usize,
@@ -42,7 +43,7 @@ pub(crate) fn closed_trace(
     }
 }
 
-// What a request is answered on a trace with its disturbance.
+// The answer to a request, on a trace with its disturbance.
 pub(crate) fn deliver_on<R: ResponseRule>(
     trace: Trace,
     disturbance: Disturbance,

@@ -1,4 +1,6 @@
-// Dockets: the samples of one disturbance, in a table of the caller's.
+//! Dockets: the samples of one disturbance in the caller's table, open while samples are collected,
+//! closed for deliveries.
+//! For plant controllers, which need no heap. docs/RULES.md states the calls under Dockets.
 #![tactic(auto)]
 
 mod closing;

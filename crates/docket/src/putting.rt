@@ -1,7 +1,5 @@
-// A reading put at the end of the counted samples of a table, or in the place of one.
-// The caller's table and the docket's count come apart: the check does not cover a parameter that
-// holds a table to be written and is passed on, so a `Timeline` would be taken apart here and made
-// again.
+//! A reading put at the end of the counted samples of a table, or in the place of one. Table and
+//! count are two parameters, since the prover does not cover passing a `Timeline` on.
 ghost use Rattle.docket.specs.Dockets.{PutsReading, AmendsReading};
 
 use recording::reading::Reading;
@@ -10,8 +8,8 @@ use recording::sample::Sample;
 use timeline::fault::{check_strike, check_table};
 use timeline::timeline::Timeline;
 
-// Adds the sample of a reading at the end, and answers the new count. A field outside its limits is
-// refused only where the table is the docket's.
+// Adds the sample of a reading at the end, and answers the new count. The table is checked before
+// the fields.
 pub(crate) fn put_reading(
     table: &mut [Sample],
     count: usize,
@@ -28,7 +26,8 @@ pub(crate) fn put_reading(
     }
 }
 
-// Replaces the sample at a place by that of a reading, and answers the count.
+// Replaces the sample at a place by that of a reading, and answers the count. Table and place are
+// checked before the fields.
 pub(crate) fn amend_reading(
     table: &mut [Sample],
     count: usize,

@@ -1,4 +1,4 @@
-// Replacing the sample at a place.
+//! Replacing the sample at a place.
 use crate::expected::*;
 use docket::docket::OpenDocket;
 
@@ -39,7 +39,7 @@ fn the_ends_have_one_neighbour(rt: HostRuntime) {
     holds_steady(&rt, &table, 2, 1_200_000);
 }
 
-// What stands beyond the count is no neighbour.
+// An entry at or beyond the count is not a neighbour.
 #[test]
 fn the_last_sample_may_pass_what_was_struck(rt: HostRuntime) {
     let mut table = [BLANK; 3];

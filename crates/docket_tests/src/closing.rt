@@ -1,4 +1,4 @@
-// Closing a docket on its disturbance, and opening it again.
+//! Closing a docket on its disturbance, and opening it again.
 use crate::expected::*;
 use crate::records::*;
 use disturbance::direction::Direction;
@@ -126,7 +126,7 @@ fn a_docket_handed_back_goes_on(rt: HostRuntime) -> Result<(), Fail> {
     Ok(())
 }
 
-// The former last sample still stands in the table, and is not counted.
+// The former last sample is still in the table, but is not counted.
 #[test]
 fn a_struck_sample_is_no_disturbance(rt: HostRuntime) -> Result<(), Fail> {
     let mut table = [BLANK; 2];

@@ -1,4 +1,4 @@
-// What the examples share: readings, tables and what is expected of an answer.
+//! What the examples share: readings, tables and the checks of answers.
 use docket::docket::{Kept, OpenDocket};
 use recording::reading::{Reading, WholeReading};
 use recording::refusal::Refusal;
@@ -7,7 +7,8 @@ use std::fmt::Debug;
 use std::process::Abort;
 use std::test::Fail;
 
-// What a caller's table may hold before it is used: no sample, with every field outside its limits.
+/// What a caller's table may hold before it is used: no sample, with every field outside its
+/// limits.
 pub const BLANK: Sample = Sample {
     time: u32::MAX,
     frequency: 0,
@@ -27,12 +28,12 @@ pub(crate) fn steady(time: u32) -> Reading {
     reading(time, 50_000, 0)
 }
 
-// The call was accepted, and answers this count.
+// The call was accepted and answers this count.
 pub(crate) fn counts(rt: &impl Abort, answer: Result<usize, Refusal>, count: usize) {
     assert_eq!(rt; answer, Ok(count));
 }
 
-// What a refusal tells, in plain numbers.
+// A refusal in plain numbers.
 #[derive(Clone, Copy, Debug, PartialEq)]
 pub(crate) struct Facts {
     number: u8,
@@ -50,7 +51,7 @@ pub(crate) fn told(refusal: Refusal) -> Facts {
     }
 }
 
-// What a refusal tells that names no byte and no field.
+// A refusal that names no byte and no field, in plain numbers.
 pub(crate) fn plain(number: u8, place: usize) -> Facts {
     Facts {
         number,

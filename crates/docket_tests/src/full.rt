@@ -1,4 +1,5 @@
-// The greatest count, 4,096, in tables with fewer places, with exactly so many and with one more.
+//! The greatest count, 4,096, in tables with fewer places, with exactly that many and with one
+//! more.
 use crate::expected::*;
 use crate::records::*;
 use docket::docket::OpenDocket;
@@ -6,7 +7,7 @@ use recording::sample::Sample;
 use std::alloc::{AllocError, Global};
 use std::test::Fail;
 
-// A recording of so many steady members, one every 100 ms.
+// A recording of this many steady members, one every 100 ms.
 fn long_recording(heap: Global, members: u16) -> Result<Vec<u8>, AllocError> {
     let mut bytes = Vec::new(heap);
     for k in 0..members {
@@ -34,7 +35,7 @@ fn a_table_with_one_place_more_than_4096(rt: HostRuntime) -> Result<(), Fail> {
     Ok(())
 }
 
-// Struck at either end, the former last sample stands at the new count's place.
+// After a strike at either end, the former last sample is still at the place of the new count.
 #[test]
 fn a_table_with_exactly_4096_places(rt: HostRuntime) -> Result<(), Fail> {
     let mut table = blank_table(rt.alloc(), 4_096)?;
@@ -51,7 +52,7 @@ fn a_table_with_exactly_4096_places(rt: HostRuntime) -> Result<(), Fail> {
     Ok(())
 }
 
-// One member too many sends all back: it is the one at place 4,096, from byte 49,152 on.
+// One member too many refuses the whole load, at place 4,096 and byte 49,152.
 #[test]
 fn a_recording_of_4097_members(rt: HostRuntime) -> Result<(), Fail> {
     let mut table = blank_table(rt.alloc(), 4_097)?;

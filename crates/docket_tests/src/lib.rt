@@ -1,5 +1,6 @@
-// Examples of timelines and dockets. Every expected count, refusal and table was worked out by hand from
-// the rules.
+//! Examples of timelines and dockets. Every expected count, refusal and table was worked out by
+//! hand.
+//! They try the rules of docs/RULES.md under Timelines, Dockets and Refusals.
 #![tactic(auto)]
 
 #[cfg(test)]

@@ -1,4 +1,4 @@
-// Loading a recording: all of its members, or none.
+//! Loading a recording: all of its members, or none.
 use crate::expected::*;
 use crate::records::*;
 use docket::docket::OpenDocket;
@@ -64,7 +64,8 @@ fn an_empty_recording_adds_none(rt: HostRuntime) {
     holds_steady(&rt, &table, 2, 300);
 }
 
-// The first member with a fault decides: the second, whose time is the first's, not the leftover bytes.
+// The first member with a fault decides: the second, whose time is the first's, not the leftover
+// bytes.
 #[test]
 fn an_equal_time_comes_before_leftover_bytes(rt: HostRuntime) -> Result<(), Fail> {
     let mut table = [BLANK; 4];

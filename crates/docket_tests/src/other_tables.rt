@@ -1,4 +1,5 @@
-// A table that is not the docket's: it has too few places, or what is counted breaks limits or order.
+//! A table that is not the docket's: it has too few places, or what is counted breaks limits or
+//! order.
 use crate::expected::*;
 use crate::records::*;
 use docket::docket::OpenDocket;
@@ -6,8 +7,8 @@ use recording::sample::Sample;
 use std::process::Abort;
 use std::test::Fail;
 
-// Every call on the table is refused, whatever else is wrong with it. Put tells the count, 3; amend and
-// strike tell the place given; load tells none. Close hands the docket back, by `handed_back`.
+// Every call on the table is refused, whatever else is wrong with it. Put refuses at the count, 3,
+// amend and strike at the place given, load at none. Close hands the docket back, by `handed_back`.
 fn is_refused_by_all(rt: &impl Abort, docket: &mut OpenDocket, other: &mut [Sample]) {
     refused(rt, docket.put(other, steady(400)), 1, 3);
     refused(rt, docket.put(other, reading(400, 46_999, 0)), 1, 3);
@@ -28,7 +29,7 @@ fn too_few_places(rt: HostRuntime) -> Result<(), Fail> {
     Ok(())
 }
 
-// Exactly as many places as are counted is a table without a free place.
+// A table with exactly the counted places has no free one.
 #[test]
 fn just_enough_places(rt: HostRuntime) {
     let mut table = [BLANK; 4];
@@ -76,7 +77,7 @@ fn a_field_outside_its_limits(rt: HostRuntime) {
     );
 }
 
-// What stands from the count on is the caller's and is not looked at.
+// The places from the count on belong to the caller and are not looked at.
 #[test]
 fn a_new_docket_takes_any_table(rt: HostRuntime) {
     let late = sample(500, 50_000, 0);

@@ -1,4 +1,4 @@
-// Putting a reading at the end.
+//! Putting a reading at the end.
 use crate::expected::*;
 use docket::docket::OpenDocket;
 use recording::reading::{FloatingReading, Reading};

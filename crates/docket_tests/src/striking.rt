@@ -1,8 +1,8 @@
-// Taking a sample out.
+//! Removing a sample.
 use crate::expected::*;
 use docket::docket::OpenDocket;
 
-// The later ones move down by one; the former last one still stands at the new count's place.
+// The later ones move down by one; the former last one is still at the place of the new count.
 #[test]
 fn the_first_is_taken_out(rt: HostRuntime) {
     let mut table = [BLANK; 4];

@@ -1,4 +1,4 @@
-// Dispatch targets: put, amend and strike on a timeline of at most 16.
+//! Dispatch targets: put, amend and strike on a timeline of at most 16.
 use crate::expected::{counts, holds_entry, refused, refused_in};
 use recording::refusal::{Layer, Refusal};
 use std::process::Abort;

@@ -1,4 +1,5 @@
-// The worked examples of the rules, as proved statements, and those of the texts that the program prints.
+//! The worked examples of the rules as proved statements, and tests of the printed text.
+//! For readers of docs/RULES.md and docs/EXAMPLE.md, which show the same examples.
 #![tactic(auto)]
 
 pub mod lifecycle;

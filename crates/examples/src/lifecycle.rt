@@ -1,11 +1,12 @@
-// A docket through its states: what is moved cannot be used again, and a state offers only its calls.
+//! A docket through its states. A docket that is moved cannot be used again, and each state has its
+//! own calls.
 ghost use Rattle.std.specs.Prelude.{◌≡◌};
 
 use docket::docket::{Kept, OpenDocket};
 use recording::sample::Sample;
 
-// A docket closed and opened again, or handed back where it cannot be closed: it has the samples that
-// it had.
+/// A docket closed and opened again, or handed back if it cannot be closed, has the samples that it
+/// had.
 pub fn closed_and_reopened(docket: OpenDocket, table: &[Sample]) -> OpenDocket
     ensures counts_as_many_samples_as_before { result.count ≡ docket.count }
 {

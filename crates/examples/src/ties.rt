@@ -1,4 +1,4 @@
-// Powers that lie half a watt between two whole numbers: the greater one is taken.
+//! Powers halfway between two whole watts: half-up takes the greater one.
 ghost use Rattle.std.specs.Prelude.{◌≡◌, true, false, pos, negsuc, Ok};
 ghost use Rattle.examples.specs.Ties.{Tied, reading_of, sample_of};
 
@@ -6,7 +6,7 @@ use recording::reading::{FloatingReading, Reading};
 use recording::refusal::Field;
 use recording::sample::Sample;
 
-// 50 Hz and this power in MW, at 0 ms.
+// A reading of 50 Hz and this power in MW, at 0 ms.
 fn reading_of(power: f32) -> Reading
     ensures { result ≡ reading_of power }
 {
@@ -17,7 +17,7 @@ fn reading_of(power: f32) -> Reading
     })
 }
 
-// 0.0078125 MW is 7,813 W, and nothing else.
+/// 0.0078125 MW is 7,813 W, and nothing else.
 pub fn tie_up() -> Result<Sample, Field>
     ensures the_rule_gives_7813_watts_alone { Tied false (pos 7813) }
     ensures answers_7813_watts { result ≡ Ok (sample_of (pos 7813)) }
@@ -25,7 +25,7 @@ pub fn tie_up() -> Result<Sample, Field>
     reading_of(0.0078125).sample()
 }
 
-// -0.0078125 MW is -7,812 W, and nothing else.
+/// -0.0078125 MW is -7,812 W, and nothing else.
 pub fn tie_down() -> Result<Sample, Field>
     ensures the_rule_gives_minus_7812_watts_alone { Tied true (negsuc 7811) }
     ensures answers_minus_7812_watts { result ≡ Ok (sample_of (negsuc 7811)) }

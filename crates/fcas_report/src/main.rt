@@ -1,4 +1,5 @@
-// What is delivered of the recording on standard input.
+//! Prints the deliveries of the recording on standard input.
+//! For operators. docs/RULES.md states the rules under The programs.
 #![tactic(auto)]
 
 use report::run::run;

@@ -1,5 +1,6 @@
-// What is delivered of the recording on standard input. The gate runs a program on one input, so this
-// one is apart: in its recording the network recovers at the very sample at which the battery steps back.
+//! `fcas_report` again, since the gate runs each program on one input. In this one's recording the
+//! network recovers at the very sample at which the battery steps back.
+//! docs/EXAMPLE.md works it by hand.
 #![tactic(auto)]
 
 use report::run::run;

@@ -1,5 +1,6 @@
-// What is delivered of the recording on standard input. The gate runs a program on one input, so this
-// one is apart: its recording has one record more than a table has places.
+//! `fcas_report` again, since the gate runs each program on one input. This one's recording has one
+//! record more than a table has places.
+//! docs/RULES.md states the rules under The programs.
 #![tactic(auto)]
 
 use report::run::run;

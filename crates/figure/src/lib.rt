@@ -1,4 +1,6 @@
-// The delivered figure: what it is, and what holds of it. The code that works it out is in `delivery`.
+//! The delivered figure: its definitions, the request, the report, and the laws of the figure. The
+//! code that computes it is in `delivery`.
+//! For settlement. docs/RULES.md states the rules under The delivered figure.
 #![tactic(auto)]
 
 pub mod laws;

@@ -1,10 +1,12 @@
-// A sample as a disturbance turns it.
+//! A sample as it counts for the direction of a disturbance.
 
-// Time in ms; how far the frequency lies on the side of the disturbance, in mHz; the power that
-// works against the disturbance, in W.
+/// A sample with its dip and its push.
 #[derive(Clone, Copy)]
 pub struct Point {
+    /// In ms.
     pub time: u32,
+    /// How far the frequency is from nominal on the side of the disturbance, in mHz.
     pub dip: i64,
+    /// The power against the disturbance, in W.
     pub push: i64,
 }

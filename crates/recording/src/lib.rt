@@ -1,4 +1,7 @@
-// Recordings of a disturbance: readings behind one interface, and the samples that they give.
+//! Recordings: readings, samples, the interface of recordings, the two makes of recorder, and every
+//! refusal of the engine.
+//! For programs that read a recorder, and for all crates above. docs/RULES.md states the rules
+//! under Samples, Readings, Recordings and Refusals.
 #![tactic(auto)]
 
 pub mod fault;

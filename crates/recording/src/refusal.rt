@@ -1,11 +1,11 @@
-// Refusals: why a call is sent back, and where.
+//! Refusals: why a call is refused, and where.
 ghost use Rattle.std.specs.Prelude.{◌≡◌, ◌++◌, Some, codes, decimal};
 ghost use Rattle.recording.specs.Refusals.{listed, field_number, refusal};
 
 use std::error::Error;
 use std::fmt;
 
-// The part of the work that sends a call back.
+/// The part of the engine that refuses a call.
 #[derive(Clone, Copy, Debug, PartialEq, Eq)]
 pub enum Layer {
     Recording,
@@ -15,7 +15,7 @@ pub enum Layer {
     Setup,
 }
 
-// A field of a reading, or of an entry of a timeline.
+/// A field of a sample or a target, by its number in a refusal: 1 time, 2 frequency, 3 power.
 #[derive(Clone, Copy, Debug, PartialEq, Eq)]
 pub enum Field {
     Time = 1,
@@ -23,60 +23,63 @@ pub enum Field {
     Power,
 }
 
-// Every reason for which a call is sent back, in the checking order.
+/// Every reason for a refusal, with its number in docs/RULES.md under Refusals.
 #[derive(Clone, Copy, Debug, PartialEq, Eq)]
 pub enum Reason {
-    // the table is not the one that the count, or the closed docket, belongs to
+    /// 1: the table is not the one to which the count, or the closed docket, belongs.
     OtherTable,
-    // the place asked of a recording is beyond its end
+    /// 2, of a recording: the place is at or beyond the number of members.
     BeyondEnd,
-    // the place asked of a timeline is at or beyond its count
+    /// 2, of a timeline: the place is at or beyond the count.
     BeyondCount,
-    // the recording ends inside a record
+    /// 3: the recording ends inside a record.
     CutRecord,
-    // a field is outside its limits, the first of time, frequency and power
+    /// 4: a field is outside its limits, the first of time, frequency and power.
     OutsideLimits(Field),
-    // the count has reached the table's places or the maximum
+    /// 5: the count has reached the table's places or the maximum.
     Full,
-    // the time is not later than the entry before, or not earlier than the entry after
+    /// 6: the time is not later than the entry before, or not earlier than the entry after.
     OutOfOrder,
-    // no disturbance is on the docket at close
+    /// 7: the docket has no disturbance at close.
     NoDisturbance,
-    // the enabled amount is outside its limits
+    /// 8: the enabled amount is not from 0 to 1,000,000,000 W.
     AmountOutside,
-    // the service belongs to the other direction
+    /// 9: the service belongs to the other direction.
     OtherDirection,
-    // the targets' table is not the one that their count belongs to
+    /// 10: the targets' table is not the one to which their count belongs.
     OtherTargets,
-    // no base sample exists
+    /// 11: there is no base sample.
     NoBaseSample,
-    // the disturbance time or a base sample lies before the first target or after the last
+    /// 12: the disturbance time or a base sample lies before the first target or after the last.
     OutsideTargets,
-    // the rule has a trigger and the dip never reaches it
+    /// 13: the rule has a trigger, and the dip does not reach it before recovery.
     NoTriggerTime,
-    // recovery is at or before the first window's start
+    /// 14: recovery is at or before the first window's start.
     EmptyFirstWindow,
-    // a window begins before the first sample or ends after the last
+    /// 15: a window begins before the first sample or ends after the last.
     WindowOutside,
-    // neighbouring samples in a window are further apart than the widest gap
+    /// 16: neighbouring samples in a window are further apart than the widest gap.
     WideGap,
-    // a setting, or a trial's window, is outside its limits
+    /// 17: a setting, or a trial's window, is outside its limits.
     SettingOutside,
-    // the text is no service's code
+    /// 18: the text is not the code of a service.
     UnknownCode,
 }
 
-// What a refused call returns: the reason, with its listed number, layer and field; the place of the
-// member or entry; the byte position in the recording.
+/// The answer of a refused call. Number, layer and field follow from the reason.
 #[derive(Clone, Copy, Debug, PartialEq, Eq)]
 pub struct Refusal {
+    /// Why the call is refused.
     pub reason: Reason,
+    /// The member's place in a load, the count in a put, the place given in an amend, a strike or a
+    /// recording's question; else 0.
     pub place: usize,
+    /// The position of the member's first byte in its recording; else 0.
     pub position: usize,
 }
 
 impl Field {
-    // 1 time, 2 frequency, 3 power: a number, since a refusal's field is told by its number.
+    /// The field's number in a refusal: 1 time, 2 frequency, 3 power.
     pub fn number(self) -> u8
         ensures number_of_the_field { result ≡ field_number self }
     {
@@ -85,7 +88,7 @@ impl Field {
 }
 
 impl Reason {
-    // The refusal for this reason at the place of a member or entry, which names no byte.
+    /// The refusal for this reason at the place of a member or entry, with byte position 0.
     pub fn at(self, place: usize) -> Refusal
         ensures refusal_at_the_place_names_no_byte { result ≡ refusal self place 0 }
     {
@@ -97,7 +100,7 @@ impl Reason {
     }
 }
 
-// A reason that has no place of its own.
+// A reason without a place: place and position are 0.
 impl From<Reason> for Refusal {
     ghost from_gives = { λ reason r. r ≡ refusal reason 0 0 };
 
@@ -107,7 +110,7 @@ impl From<Reason> for Refusal {
 }
 
 impl Refusal {
-    // The number in the list of refusals, which is what an operator is told.
+    /// The number in the list of refusals, from 1 to 18.
     pub fn number(self) -> u8
         ensures number_in_the_list_of_refusals { result ≡ (listed self.reason).number }
     {
@@ -133,7 +136,7 @@ impl Refusal {
         }
     }
 
-    // The part of the work that sends the call back.
+    /// The part of the engine that refuses the call.
     pub fn layer(self) -> Layer
         ensures layer_in_the_list_of_refusals { result ≡ (listed self.reason).layer }
     {
@@ -158,8 +161,7 @@ impl Refusal {
         }
     }
 
-    // The number of the field that is outside its limits: 1 time, 2 frequency, 3 power; 0, as the list of
-    // refusals has it, with any other reason.
+    /// The field that is outside its limits: 1 time, 2 frequency, 3 power; 0 with any other reason.
     pub fn field(self) -> u8
         ensures field_number_or_zero { result ≡ (listed self.reason).field }
     {
@@ -170,7 +172,7 @@ impl Refusal {
     }
 }
 
-// `refused` and the number.
+// Shown as `refused` and the number.
 impl fmt::Display for Refusal {
     ghost output = { λ r. Some (codes "refused " ++ decimal (listed r.reason).number) };
 

@@ -1,4 +1,4 @@
-// What is expected of readings and recordings.
+//! The checks of readings and recordings.
 use recording::fault::ReadingFault;
 use recording::reading::Reading;
 use recording::refusal::Refusal;

@@ -1,4 +1,5 @@
-// Readings in floats: limits before rounding, half-up after it, and floats that are no ordinary number.
+//! Readings in floats: limits before rounding, half-up after it, and floats that are not ordinary
+//! numbers.
 use crate::expected::{gives, outside};
 use recording::reading::{FloatingReading, Reading};
 use std::process::Abort;

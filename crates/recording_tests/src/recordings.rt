@@ -1,4 +1,4 @@
-// Recordings of both makes: members, leftover bytes, and a bad member in the middle.
+//! Recordings of both makes: members, leftover bytes, and a bad member in the middle.
 use crate::expected::{gives, is_refused};
 use recording::interface::{Recording, sample_at};
 use recording::makes::{ByteRecording, Make};

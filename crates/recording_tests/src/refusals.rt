@@ -1,4 +1,4 @@
-// The list of refusals: number, layer and field of each reason.
+//! The list of refusals: number, layer and field of each reason.
 use recording::refusal::{Field, Layer, Reason, Refusal};
 use std::process::Abort;
 

@@ -1,4 +1,4 @@
-// Readings in whole units: each limit, and the value just outside.
+//! Readings in whole units: each limit, and the value just outside.
 use crate::expected::{gives, outside};
 use recording::reading::{Reading, WholeReading};
 use std::process::Abort;
@@ -11,7 +11,7 @@ fn reading(time: u32, frequency: u32, power: i32) -> Reading {
     })
 }
 
-// The reading gives itself as a sample.
+// The sample has the numbers of the reading.
 fn kept(rt: &impl Abort, time: u32, frequency: u32, power: i32) {
     let got = reading(time, frequency, power).sample();
     gives(rt, got, time, frequency, power);

@@ -1,4 +1,4 @@
-// A docket and its table, which calls are made on one after the other.
+//! A docket and its table, for calls one after the other.
 ghost use Rattle.std.specs.Prelude.{◌≡◌, ℕ, List, IfOk, length, replicate};
 ghost use Rattle.recording.specs.declared.interface.Member.{Member as Item};
 ghost use Rattle.recording.specs.Makes.{Recorded};
@@ -27,14 +27,17 @@ const BLANK: Sample = Sample {
     power: 0,
 };
 
+/// A docket in either state, and a table that need not be the docket's own.
 #[derive(Drop)]
 pub struct Desk {
+    /// The table for the docket's samples.
     pub table: Vec<Sample>,
+    /// The docket.
     pub state: State,
 }
 
 impl Desk {
-    // A new docket, and a new table of so many places.
+    // A new docket, and a new table with this number of places.
     pub(crate) fn new(heap: Global, places: usize) -> Result<Desk, AllocError>
         ensures { IfOk result (λ desk. (desk.table.items ≡ blank_table places) × (desk.state ≡ open_with 0)) }
     {
@@ -44,7 +47,7 @@ impl Desk {
         })
     }
 
-    // A new table of so many places. The docket stays.
+    // Makes a new table with this number of places. The docket stays.
     pub(crate) fn change_table(&mut self, heap: Global, places: usize) -> Result<Reply, AllocError>
         ensures { IfOk result (λ reply. (reply ≡ Reply.Done) × (self.new.table.items ≡ blank_table places)
             × (self.new.state ≡ self.old.state)) }
@@ -53,7 +56,7 @@ impl Desk {
         Ok(Reply::Done)
     }
 
-    // A new docket. The table stays.
+    // Makes a new docket. The table stays.
     pub(crate) fn change_docket(&mut self) -> Reply
         ensures reply { result ≡ Reply.Done }
         ensures table { self.new.table ≡ self.old.table }
@@ -63,7 +66,7 @@ impl Desk {
         Reply::Done
     }
 
-    // One call on the docket and its table.
+    // Makes one call on the docket and its table.
     pub(crate) fn call(&mut self, call: Call<'_, ByteRecording<'_>, Rule>) -> Reply
         ensures { Called self.old (meant call.entry) result self.new }
     {
@@ -73,7 +76,7 @@ impl Desk {
         turn.answer.into()
     }
 
-    // Loads the recording that bytes make.
+    // Loads the recording of these bytes.
     pub(crate) fn load(&mut self, make: Make, bytes: &[u8]) -> Reply
         ensures { (ms : List Item) → Recorded make bytes.now ms → Called self.old (of_open (load ms)) result self.new }
     {
@@ -81,7 +84,7 @@ impl Desk {
         self.call(Call::Load(&recording))
     }
 
-    // Delivers for what is enabled, with settings and a plan.
+    // Delivers for an enablement, with settings and a plan.
     pub(crate) fn deliver(
         &mut self,
         settings: &Settings,

@@ -1,4 +1,5 @@
-// Replays of a plant controller's calls: a script in, the answer to each of its lines out.
+//! Replays of scripts: what each line does in a session, and the text of the answers.
+//! For `fcas_replay`. docs/SCRIPTS.md states the lines and the answers.
 #![tactic(auto)]
 
 pub mod desk;

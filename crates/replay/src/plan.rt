@@ -1,4 +1,4 @@
-// A plan: the dispatch targets and the chosen response rule.
+//! A plan: the dispatch targets and the chosen response rule.
 ghost use Rattle.std.specs.Prelude.{◌≡◌};
 ghost use Rattle.timeline.specs.Targets.{targets};
 ghost use Rattle.timeline.specs.Timelines.{Puts, Amends, Strikes};
@@ -15,19 +15,22 @@ use script::command::Choice;
 use timeline::target::{MOST_TARGETS, Target};
 use timeline::timeline::Timeline;
 
-// The targets' table with its count, as many places as there may be targets, and the rule.
+/// What deliveries are made with, beside the settings.
 #[derive(Clone, Copy)]
 pub struct Plan {
+    /// The targets' table.
     pub targets: [Target; MOST_TARGETS],
+    /// The number of targets.
     pub count: usize,
+    /// The chosen response rule.
     pub rule: Choice,
 }
 
-// What every place of the targets' table holds at first; a new plan counts none.
+// What every place of the targets' table holds at first.
 const BLANK: Target = Target { time: 0, power: 0 };
 
 impl Plan {
-    // No targets, and the variable rule.
+    // A plan without targets, and with the variable rule.
     pub(crate) fn new() -> Plan
         ensures { result ≡ empty_plan }
     {
@@ -38,7 +41,7 @@ impl Plan {
         }
     }
 
-    // A new targets' table. The count stays.
+    // Makes a new targets' table. The count stays.
     pub(crate) fn change_table(&mut self) -> Reply
         ensures reply { result ≡ Reply.Done }
         ensures targets { self.new ≡ record (self.old) { targets = blank_targets } }
@@ -73,7 +76,7 @@ impl Plan {
         answer
     }
 
-    // Takes the target at a place out, and answers the new count.
+    // Removes the target at a place, and answers the new count.
     pub(crate) fn strike(&mut self, place: usize) -> Result<usize, Refusal>
         ensures outcome { Strikes targets self.old.count self.old.targets place result self.new.targets }
         ensures count { self.new.count ≡ count_after result self.old.count }
@@ -86,7 +89,7 @@ impl Plan {
         answer
     }
 
-    // The chosen rule, with the numbers of settings.
+    // The chosen rule, with the numbers of the settings.
     pub(crate) fn rule_by(&self, settings: &Settings) -> Rule
         ensures { result ≡ rule_by self.now.rule settings.now }
     {

@@ -1,4 +1,4 @@
-// A script from its text to the text of its answers.
+//! A script, from its text to the text of its answers.
 ghost use Rattle.std.specs.Prelude.{◌≡◌, ℕ, List, IfOk, string_bytes, Decides};
 ghost use Rattle.replay.specs.Replays.{IsSilent, RepliesTo, Tells, Replays};
 
@@ -8,7 +8,7 @@ use crate::text::Numbered;
 use script::line::{command, lines, words};
 use std::alloc::{AllocError, Global};
 
-// Whether a line has no answer: it has no words, or is a remark.
+// Whether a line has no answer: it is empty or a comment.
 fn is_silent(line: &str) -> bool
     ensures { Decides result (IsSilent line.now) }
 {
@@ -26,7 +26,7 @@ fn reply_to(session: &mut Session, heap: Global, line: &str) -> Result<Reply, Al
     }
 }
 
-// The text that a line is answered with.
+// The text of the reply to a line.
 fn told(
     session: &mut Session,
     heap: Global,
@@ -46,7 +46,8 @@ fn told(
     format!(in heap; "{numbered}")
 }
 
-// The text of the answers to the lines of a script, in turn, from a new session: the only one for it.
+/// The text of the answers to the lines of a script, in turn, from a new session. Refusals are text
+/// too; the error means that the heap is full.
 pub fn replay(heap: Global, script: &str) -> Result<String, AllocError>
     ensures answers_each_line_in_its_session { IfOk result (λ text. Replays script.now (string_bytes text)) }
     ensures no_other_text { IfOk result (λ text. (t : List ℕ) → Replays script.now t → t ≡ string_bytes text) }

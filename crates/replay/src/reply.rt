@@ -1,21 +1,24 @@
-// What a line of a script is answered.
+//! The reply to a line of a script.
 ghost use Rattle.std.specs.Prelude.{◌≡◌};
 ghost use Rattle.replay.specs.Replies.{replied, refused, granted};
 
 use calls::answer::Answer;
 use recording::refusal::Refusal;
 
-// The answer of a call, that a choice is made, that the docket's state does not offer the call, or that the
-// line is no call.
+/// The reply to one line.
 #[derive(Clone, Copy, Debug, PartialEq, Eq)]
 pub enum Reply {
+    /// The answer of a call.
     Told(Answer),
+    /// A choice is made.
     Done,
+    /// The docket's state does not allow the call.
     NotOffered,
+    /// The line is not a call.
     NoCall,
 }
 
-// What a docket answers, or that its state does not offer the call.
+// No answer means that the docket's state does not allow the call.
 impl From<Option<Answer>> for Reply {
     ghost from_gives = { λ o reply. reply ≡ replied o };
 
@@ -27,7 +30,7 @@ impl From<Option<Answer>> for Reply {
     }
 }
 
-// A refusal is told as a docket's answer is, whatever is refused.
+// A refused choice has the same reply as a refused call.
 impl From<Refusal> for Reply {
     ghost from_gives = { λ f reply. reply ≡ refused f };
 
@@ -36,7 +39,7 @@ impl From<Refusal> for Reply {
     }
 }
 
-// That a choice is made, or why it is refused.
+// A choice is made or refused.
 impl From<Result<(), Refusal>> for Reply {
     ghost from_gives = { λ r reply. reply ≡ granted r };
 

@@ -1,13 +1,14 @@
-// A whole run of the program: a script on standard input, its answers on standard output.
+//! A whole run of the program: a script on standard input, its answers on standard output.
 use crate::replay::replay;
 use std::io::Read;
 
-// The most bytes of a script that are read: enough for a load of a full table and a hundred thousand lines
-// besides.
+// The most bytes of a script: enough for the load of a full table and a hundred thousand further
+// lines.
 const MOST: u64 = 4 * 1024 * 1024;
 
-// Reads a script from standard input and prints the answers to its lines. What is not text is read as the mark
-// that stands for no character, which no verb, figure or service's code has.
+/// Reads a script from standard input and prints the answers to its lines. Bytes that are not UTF-8
+/// are read as U+FFFD, which occurs in no verb, number or code. The error is a script of more than
+/// 4,194,304 bytes, or one of input, output or the heap.
 pub fn run(rt: &HostRuntime) -> anyhow::Result<()> {
     let mut bytes = Vec::new(rt.alloc());
     let read = rt.stdin().take(MOST + 1).read_to_end(&mut bytes)?;

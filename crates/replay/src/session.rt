@@ -1,4 +1,4 @@
-// A session: a docket with its table, and what deliveries are made with.
+//! A session: a docket with its table, and what deliveries are made with.
 ghost use Rattle.std.specs.Prelude.{◌≡◌, None, IfOk};
 ghost use Rattle.replay.specs.Sessions.{Fresh, Acts, PutsBack, Tries, Loads, digits_of, Delivers, DeliversFor};
 
@@ -17,17 +17,22 @@ use script::command::Command;
 use std::alloc::{AllocError, Global};
 use timeline::sample::MOST_SAMPLES;
 
+/// The state between the lines of a script.
 #[derive(Drop)]
 pub struct Session {
+    /// The docket and its table.
     pub desk: Desk,
+    /// The settings of deliveries, without the trial's window.
     pub settings: Settings,
-    // the base window that each delivery tries, if one is tried
+    /// The base window of the trial of each delivery, or none.
     pub trial: Option<BaseWindow>,
+    /// The targets and the response rule.
     pub plan: Plan,
 }
 
 impl Session {
-    // A new docket, as many places as a docket may hold samples, the plain settings and no targets.
+    /// A new docket, a table of 4,096 blank places, the plain settings, no trial, no targets and
+    /// the variable rule. The error means that the heap is full.
     pub fn new(heap: Global) -> Result<Session, AllocError>
         ensures starts_fresh_with_plain_settings { IfOk result Fresh }
     {
@@ -39,7 +44,8 @@ impl Session {
         })
     }
 
-    // Does what a line says, and replies to it.
+    /// Does what a command says, and replies to it. Refusals are replies; the error means that the
+    /// heap is full.
     pub fn act(&mut self, heap: Global, command: Command<'_>) -> Result<Reply, AllocError>
         ensures replies_and_acts_as_the_line_says { IfOk result (λ reply. Acts self.old command.entry reply self.new) }
         ensures every_trial_puts_the_former_settings_back { IfOk result (λ _. PutsBack self.old command.entry self.new) }
@@ -70,7 +76,7 @@ impl Session {
         })
     }
 
-    // Lets each later delivery try a window, unless it is outside its limits.
+    // Makes each later delivery in a trial of a window. Refusal 17 if it is outside its limits.
     fn begin_trial(&mut self, begin: u32, end: u32) -> Reply
         ensures { Tries self.old begin end result self.new }
     {
@@ -83,7 +89,7 @@ impl Session {
         }
     }
 
-    // Lets later deliveries have the settings as they are.
+    // Makes later deliveries without a trial.
     fn end_trial(&mut self) -> Reply
         ensures reply { result ≡ Reply.Done }
         ensures leaves { self.new ≡ record (self.old) { trial = None } }
@@ -92,7 +98,7 @@ impl Session {
         Reply::Done
     }
 
-    // Loads the recording whose bytes the digits write. A text that writes none is no call.
+    // Loads the recording whose bytes the digits write. Other text is not a call.
     fn load(&mut self, heap: Global, make: Make, digits: Option<&str>) -> Result<Reply, AllocError>
         ensures { IfOk result (λ reply. Loads self.old make (digits_of digits.entry) reply self.new) }
     {
@@ -104,7 +110,7 @@ impl Session {
         }
     }
 
-    // Delivers the service with a code. A text that is no code is refused.
+    // Delivers the service with a code. Refusal 18 for any other text.
     fn deliver(&mut self, code: &str, watts: i64) -> Reply
         ensures { Delivers self.old code.now watts result self.new }
     {
@@ -114,7 +120,7 @@ impl Session {
         }
     }
 
-    // Delivers for what is enabled, in a trial while a window is tried.
+    // Delivers for an enablement, in a trial if there is a window to try.
     fn deliver_for(&mut self, enablement: Enablement) -> Reply
         ensures { DeliversFor self.old enablement result self.new }
     {

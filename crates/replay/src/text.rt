@@ -1,4 +1,4 @@
-// The text of a reply.
+//! The text of a reply.
 ghost use Rattle.std.specs.Prelude.{Some};
 ghost use Rattle.replay.specs.Texts.{time_text, watts_text, layer_word, report_text, refusal_text, answer_text, numbered_text};
 
@@ -16,7 +16,7 @@ struct Time(Option<u32>);
 #[derive(Drop)]
 struct Watts(Option<i64>);
 
-// The part of the work that sends a call back, as a word.
+// The layer of a refusal, as a word.
 #[derive(Drop)]
 struct LayerWord(Layer);
 
@@ -28,7 +28,7 @@ struct ReportLine(Report);
 #[derive(Drop)]
 struct RefusalLine(Refusal);
 
-// What a docket answers.
+// The answer of a docket.
 #[derive(Drop)]
 struct AnswerLine(Answer);
 

@@ -1,10 +1,11 @@
-// How the examples replay a script.
+//! How the examples replay a script.
 use replay::replay::replay;
 use std::process::Abort;
 use std::test::Fail;
 
-// A fall by 2 mHz a ms from 49,850 mHz at 20,000 ms, so that the disturbance is at 20,001, and a rise by
-// 10 mHz a ms from 49,750 at 20,050: on 50,000 at 20,075, recovered at 20,076. Then the docket is closed.
+// A fall by 2 mHz a ms from 49,850 mHz at 20,000 ms, so that the disturbance is at 20,001, and a
+// rise by 10 mHz a ms from 49,750 at 20,050: on 50,000 at 20,075, recovered at 20,076. Then the
+// docket is closed.
 pub(crate) const FALL: &str = "\
 put-whole 5000 50000 0
 put-whole 20000 49850 0
@@ -13,7 +14,7 @@ put-whole 20100 50250 1000
 close
 ";
 
-// What the fall is answered.
+// The answers to the fall.
 pub(crate) const FALLEN: &str = "\
 count 1
 count 2

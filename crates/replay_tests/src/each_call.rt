@@ -1,4 +1,4 @@
-// Each call that a script can make.
+//! Each call that a script can make.
 use crate::asking::*;
 use std::test::Fail;
 
@@ -42,9 +42,9 @@ count 2
     )
 }
 
-// The recordings are those of the samples of the fall from the second on: 20,000 is 4e20, 49,850 is c2ba,
-// 20,050 is 4e52, 49.75 Hz is 42470000, 20,100 is 4e84, 50.25 Hz is 42490000, and the float next to 0.001 MW
-// is 3a83126f.
+// The recordings are those of the samples of the fall from the second on: 20,000 is 4e20, 49,850 is
+// c2ba, 20,050 is 4e52, 49.75 Hz is 42470000, 20,100 is 4e84, 50.25 Hz is 42490000, and the float
+// next to 0.001 MW is 3a83126f.
 #[test]
 fn recordings_of_both_makes(rt: HostRuntime) -> Result<(), Fail> {
     answers(
@@ -86,8 +86,9 @@ report disturbance 20001 recovery 20076 first 1360 second none delivery 1360 ver
     )
 }
 
-// The switching rule delivers only with a fast ramp. What is amended after recovery changes no figure. Without
-// the third sample the line rises from 49,850 at 20,000 by 4 mHz a ms, above 50,150 at 20,076.
+// The switching rule delivers only with a fast ramp. What is amended after recovery changes no
+// figure. Without the third sample the line rises from 49,850 at 20,000 by 4 mHz a ms, above 50,150
+// at 20,076.
 #[test]
 fn rules_settings_and_reopen(rt: HostRuntime) -> Result<(), Fail> {
     answers_after_fall(
@@ -125,8 +126,8 @@ closed 20076 high
     )
 }
 
-// From 10,000 to 8,000 ms before the disturbance there is no sample. The settings are what they were after
-// the trial; a refused trial leaves the window that is tried.
+// From 10,000 to 8,000 ms before the disturbance there is no sample. The settings are what they
+// were after the trial; a refused trial leaves the window that is tried.
 #[test]
 fn a_trial_window_for_the_deliveries_in_it(rt: HostRuntime) -> Result<(), Fail> {
     answers_after_fall(
@@ -156,7 +157,7 @@ report disturbance 20001 recovery 20076 first 1360 second none delivery 1360 ver
     )
 }
 
-// Targets that are level at 0 take nothing from the figure.
+// Targets that are level at 0 do not change the figure.
 #[test]
 fn targets_put_amended_and_struck(rt: HostRuntime) -> Result<(), Fail> {
     answers_after_fall(
@@ -186,7 +187,7 @@ report disturbance 20001 recovery 20076 first 1360 second none delivery 1360 ver
     )
 }
 
-// A new docket counts none of the table's samples; a new table has none of the docket's.
+// A new docket does not count the table's samples; a new table does not hold the docket's.
 #[test]
 fn a_new_docket_and_a_new_table(rt: HostRuntime) -> Result<(), Fail> {
     answers(
@@ -212,7 +213,7 @@ refused 5 layer docket place 1 position 0 field 0
     )
 }
 
-// A table's places may be as many as a docket may hold samples.
+// A table may have a place for each sample that a docket may hold.
 #[test]
 fn as_many_places_as_samples(rt: HostRuntime) -> Result<(), Fail> {
     answers(

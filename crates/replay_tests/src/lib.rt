@@ -1,6 +1,7 @@
-// Examples of scripts with the text of their answers: each call, each refusal by its number, and lines that
-// are none. The figures are those of the tests of deliveries, or were worked out by hand where a comment
-// shows how.
+//! Examples of scripts with the text of their answers: each call, each refusal by its number, and
+//! lines that are not calls. The figures are those of the tests of deliveries, or were worked out
+//! by hand as a comment shows.
+//! They try docs/SCRIPTS.md.
 #![tactic(auto)]
 
 #[cfg(test)]

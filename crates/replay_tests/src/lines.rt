@@ -1,4 +1,5 @@
-// Lines that are no call, calls that are not offered, and lines without an answer.
+//! Lines that are not calls, calls that the docket's state does not allow, and lines without an
+//! answer.
 use crate::asking::*;
 use std::test::Fail;
 
@@ -8,7 +9,7 @@ fn no_lines_have_no_answers(rt: HostRuntime) -> Result<(), Fail> {
     answers(&rt, "\n\n# close\n#\n", "")
 }
 
-// A remark begins with its sign, and words stand one space apart.
+// A comment begins with `#`, and one space separates words.
 #[test]
 fn lines_that_are_no_call(rt: HostRuntime) -> Result<(), Fail> {
     answers(
@@ -70,7 +71,7 @@ line 10 is no call
     )
 }
 
-// A plus may stand first.
+// A number may begin with a plus.
 #[test]
 fn figures_with_a_sign(rt: HostRuntime) -> Result<(), Fail> {
     answers(
@@ -80,7 +81,8 @@ fn figures_with_a_sign(rt: HostRuntime) -> Result<(), Fail> {
     )
 }
 
-// An open docket offers no deliver and no reopen, and a closed one nothing else. The run goes on.
+// An open docket does not allow deliver and reopen, a closed one allows nothing else. The run goes
+// on.
 #[test]
 fn calls_that_are_not_offered(rt: HostRuntime) -> Result<(), Fail> {
     answers(

@@ -1,8 +1,8 @@
-// Each refusal by its number, from 1 to 18.
+//! Each refusal by its number, from 1 to 18.
 use crate::asking::*;
 use std::test::Fail;
 
-// Another table: one with fewer places than the docket's count, be the docket open or closed.
+// Another table: one with fewer places than the docket's count, for an open and a closed docket.
 #[test]
 fn number_1(rt: HostRuntime) -> Result<(), Fail> {
     answers(
@@ -55,7 +55,7 @@ refused 2 layer docket place 2 position 0 field 0
     )
 }
 
-// A cut record, alone and after one whole record, which is 12 bytes; none of a recording is loaded.
+// A cut record, alone and after one whole record, which is 12 bytes; nothing is loaded.
 #[test]
 fn number_3(rt: HostRuntime) -> Result<(), Fail> {
     answers(
@@ -73,8 +73,9 @@ count 1
     )
 }
 
-// A field outside its limits: time, frequency, power. 7fc00000 is no number, and 447a0001 the float above
-// 1,000 MW. In a recording the place is the member's, and the position that of its first byte.
+// A field outside its limits: time, frequency, power. 7fc00000 is a NaN, and 447a0001 the float
+// above 1,000 MW. In a recording the place is the member's, and the position that of its first
+// byte.
 #[test]
 fn number_4(rt: HostRuntime) -> Result<(), Fail> {
     answers(
@@ -364,7 +365,7 @@ refused 17 layer setup place 0 position 0 field 0
     )
 }
 
-// A code is read before the docket is asked, so it is refused on an open one too.
+// A code is read before the docket is called, so a wrong one is refused on an open docket too.
 #[test]
 fn number_18(rt: HostRuntime) -> Result<(), Fail> {
     answers(

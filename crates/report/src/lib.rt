@@ -1,4 +1,5 @@
-// What the programs print of a recording: what is delivered for every service.
+//! The report of a recording: its six deliveries, and the text that `fcas_report` prints.
+//! For operators. docs/RULES.md states the rules under The programs.
 #![tactic(auto)]
 
 pub mod report;

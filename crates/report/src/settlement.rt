@@ -1,4 +1,4 @@
-// A recording on a docket of its own, settled for every service.
+//! The settlement of a recording: every service delivered on a docket of its own.
 ghost use Rattle.std.specs.Prelude.{◌≡◌, ◌<◌, List, length, map, slice_index_or, Result as Either};
 ghost use Rattle.std.specs.List.{All};
 ghost use Rattle.recording.specs.declared.refusal.Refusal.{Refusal as SentBack};
@@ -21,17 +21,19 @@ use response::rule::ResponseRule;
 use response::service::Service;
 use response::settings::Settings;
 
-// What is answered for a service: the report of its delivery, or the first defect.
+/// The answer for a service.
 #[derive(Clone, Copy)]
 pub struct Delivery {
+    /// The service that is delivered.
     pub service: Service,
+    /// The report of the delivery, or its refusal.
     pub answer: Result<Report, Refusal>,
 }
 
-// The deliveries of the six services, in the order in which they are told.
+/// The deliveries of the six services, in the order R6, L6, R60, L60, R5, L5.
 pub type Settlement = [Delivery; 6];
 
-// The call that delivers a service, with no targets and nothing enabled.
+// The call that delivers a service, with no targets and 0 W enabled.
 fn delivering<'a, R: Recording, P: ResponseRule>(
     settings: &'a Settings,
     rule: &'a P,
@@ -51,7 +53,7 @@ fn delivering<'a, R: Recording, P: ResponseRule>(
     })
 }
 
-// The calls that settle a recording.
+// The calls that settle a recording: load, close and six deliveries.
 fn settling<'a, R: Recording, P: ResponseRule>(
     recording: &'a R,
     settings: &'a Settings,
@@ -73,7 +75,7 @@ fn settling<'a, R: Recording, P: ResponseRule>(
     ]
 }
 
-// The delivery of a service, whose answer stands at a place.
+// The delivery of a service, from the answer at a place.
 fn delivery_at(service: Service, answers: &[Answer], place: usize) -> Delivery
     requires answers { All OfDelivery answers.now }
     requires place { place < length answers.now }
@@ -88,7 +90,7 @@ fn delivery_at(service: Service, answers: &[Answer], place: usize) -> Delivery
     Delivery { service, answer }
 }
 
-// The deliveries that the answers of the six services tell.
+// The deliveries that the six answers make.
 fn deliveries(answers: &[Answer]) -> Settlement
     requires answers { All OfDelivery answers.now }
     requires all { length answers.now ≡ 6 }
@@ -105,8 +107,8 @@ fn deliveries(answers: &[Answer]) -> Settlement
     ]
 }
 
-// Loads a recording into a new docket, closes it and delivers every service with no targets and nothing
-// enabled, in one list of calls: what is delivered, or the refusal of load or close.
+/// Loads a recording into a new docket, closes it and delivers every service with no targets and 0
+/// W enabled, in one list of calls. The six answers, or the refusal of load or close.
 pub fn settle<R: Recording, P: ResponseRule>(
     table: &mut [Sample],
     recording: &R,
@@ -123,7 +125,7 @@ pub fn settle<R: Recording, P: ResponseRule>(
 {
     let calls = settling(recording, settings, rule);
     let mut answers = [Answer::Reopened; 8];
-    // What the run itself tells is not needed: a call is not offered only after a refused one.
+    // The run's own result is not needed: it stops early only after a refused close.
     let _ = run(table, &calls, &mut answers);
     if let Answer::Refused(refusal) = answers[0] {
         return Err(refusal);

@@ -1,4 +1,4 @@
-// The text of a settlement, or of the refusal in its place.
+//! The text of a settlement, or of the refusal in its place.
 ghost use Rattle.std.specs.Prelude.{◌≡◌, ◌++◌, Some, IfOk, codes, string_bytes};
 ghost use Rattle.report.specs.Texts.{delivery_text, deliveries_text, outcome_text};
 
@@ -32,7 +32,8 @@ fn settlement_text(heap: Global, settlement: Settlement) -> Result<String, Alloc
     format!(in heap; "service watts verdict\n{r6}{l6}{r60}{l60}{r5}{l5}")
 }
 
-// The text of a settlement, or of the refusal alone.
+/// The text of a settlement, a header and a line for each service; or of the refusal alone. The
+/// error means that the heap is full.
 pub fn outcome_text(
     heap: Global,
     outcome: Result<Settlement, Refusal>,

@@ -1,4 +1,4 @@
-// Either of the two rules, so that one list of calls may hold both.
+//! Either of the two rules, so that one list of calls may hold both.
 ghost use Rattle.response.specs.Chosen.{triggers_of, weighs_of};
 
 use crate::rule::ResponseRule;
@@ -7,7 +7,7 @@ use crate::switching::Switching;
 use crate::variable::Variable;
 use crate::weighing::{Dip, Offset, Weight};
 
-// A rule that is chosen as the program runs. It means what the chosen one means.
+/// A rule that is chosen at run time. It means what the chosen rule means.
 #[derive(Clone, Copy)]
 pub enum Rule {
     Variable(Variable),

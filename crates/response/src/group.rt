@@ -1,32 +1,41 @@
-// Groups of services: the windows after the disturbance over which a group is measured.
+//! Groups of services, and the windows after the disturbance for which each is measured.
 ghost use Rattle.std.specs.Prelude.{◌≡◌};
 ghost use Rattle.response.specs.Groups.{row_of, Sound};
 
-// A window in ms after the disturbance, and what its average is multiplied by.
+/// A window after the disturbance time, and the multiplier of its average.
 #[derive(Clone, Copy, Debug, PartialEq, Eq)]
 pub struct Window {
+    /// In ms after the disturbance time.
     pub start: u32,
+    /// In ms after the disturbance time.
     pub end: u32,
+    /// What the average response is multiplied by: 1 or 2.
     pub multiplier: u32,
 }
 
-// Two windows, and the widest gap between neighbouring samples in them, in ms.
+/// The two windows of a group.
 #[derive(Clone, Copy, Debug, PartialEq, Eq)]
 pub struct Row {
+    /// The first window; its value always counts.
     pub first: Window,
+    /// The second window; its value counts unless the window is empty.
     pub second: Window,
+    /// The widest gap between neighbouring samples in the windows, in ms.
     pub widest_gap: u32,
 }
 
-// The services that are measured over the same windows.
+/// The services that are measured for the same windows.
 #[derive(Clone, Copy, Debug, PartialEq, Eq)]
 pub enum Group {
+    /// R6 and L6.
     Fast,
+    /// R60 and L60.
     Slow,
+    /// R5 and L5.
     Delayed,
 }
 
-// A row for each group, in the order of the groups: the list itself, which a `match` would only spread out.
+// A row for each group, in the order of the groups.
 const ROWS: [Row; 3] = [
     Row {
         first: Window {
@@ -70,7 +79,7 @@ const ROWS: [Row; 3] = [
 ];
 
 impl Group {
-    // The group's row, which is sound as every row is.
+    /// The group's windows and widest gap.
     pub fn row(self) -> Row
         ensures row_of_the_group_in_the_table { result ≡ row_of self }
         ensures windows_can_be_averaged { Sound result }

@@ -1,4 +1,6 @@
-// Settings and their trials, the services and their groups, and the rules that weigh a response.
+//! Settings and trials, services and groups, and the response rules that weigh a response.
+//! For owners, who choose the settings, and for deliveries. docs/RULES.md states the rules under
+//! Settings and trials, Services and groups, and Response rules.
 #![tactic(auto)]
 
 pub mod base;

@@ -1,4 +1,4 @@
-// Services: fast, slow and delayed, raise and lower, each known by its code.
+//! Services: fast, slow and delayed, raise and lower, each with its code.
 ghost use Rattle.std.specs.Prelude.{◌≡◌, Some};
 ghost use Rattle.response.specs.Services.{direction_of, listed, KnownBy, Apart};
 
@@ -8,14 +8,14 @@ use recording::refusal::{Reason, Refusal};
 use std::fmt;
 use std::str::FromStr;
 
-// Raise answers a frequency that is too low, lower one that is too high.
+/// Raise services answer a low frequency, lower services a high one.
 #[derive(Clone, Copy, Debug, PartialEq, Eq)]
 pub enum Side {
     Raise,
     Lower,
 }
 
-// A letter for the side and a number for the group.
+/// A service, named by its code: R for raise, L for lower, and 6 fast, 60 slow, 5 delayed.
 #[derive(Clone, Copy, Debug, PartialEq, Eq)]
 pub enum Service {
     R6,
@@ -27,8 +27,7 @@ pub enum Service {
 }
 
 impl Side {
-    // The direction of the disturbances that services of this side belong to. A question to a side, as `side`
-    // and `group` are to a service, and no conversion: a side is not written as its direction.
+    /// The direction of the disturbances that services of this side answer.
     pub fn direction(self) -> Direction
         ensures direction_that_the_side_answers { result ≡ direction_of self }
     {
@@ -57,7 +56,7 @@ impl FromStr for Service {
     }
 }
 
-// A service is shown as its code.
+// Shown as its code.
 impl fmt::Display for Service {
     ghost output = { λ service. Some (listed service).code };
 
@@ -67,14 +66,14 @@ impl fmt::Display for Service {
 }
 
 impl Service {
-    // The service with this code. Any other text is refused.
+    /// The service with this code. Refusal 18 for any other text, lower case and blanks included.
     pub fn from_code(code: &str) -> Result<Service, Refusal>
         ensures service_with_the_code_or_refused { KnownBy code.now result }
     {
         code.parse()
     }
 
-    // The code by which the service is known.
+    /// The service's code.
     pub fn code(self) -> &'static str
         ensures code_in_the_list_of_services { result.now ≡ (listed self).code }
     {
@@ -89,7 +88,7 @@ impl Service {
         }
     }
 
-    // The side on which the service works.
+    /// The side of the service.
     pub fn side(self) -> Side
         ensures side_in_the_list_of_services { result ≡ (listed self).side }
     {
@@ -99,7 +98,7 @@ impl Service {
         }
     }
 
-    // The group with whose windows the service is measured.
+    /// The group of the service, which fixes its windows.
     pub fn group(self) -> Group
         ensures group_in_the_list_of_services { result ≡ (listed self).group }
     {
@@ -111,7 +110,7 @@ impl Service {
     }
 }
 
-// No two services have one code, so the service that a code stands for is the only one.
+/// No two services share a code, so a code means one service only.
 pub fn codes_are_apart()
     ensures no_two_services_share_a_code { Apart }
 {}

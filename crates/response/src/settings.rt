@@ -1,4 +1,4 @@
-// Settings: what an owner fixes before a delivery is worked out.
+//! Settings: what an owner fixes before a delivery is computed.
 ghost use Rattle.std.specs.Prelude.{◌≡◌, ℕ, ◌<◌, ◌≤◌, OnErr};
 ghost use Rattle.response.specs.Limits.{Granted};
 ghost use Rattle.response.specs.Settings.{Allowed, numbers_of, plain_numbers};
@@ -7,27 +7,33 @@ use crate::base::BaseWindow;
 use crate::setup::{Rate, Response, Trigger};
 use recording::refusal::Refusal;
 
-// Settings as an owner asks for them, not yet held against their limits.
+/// Settings as an owner asks for them, not yet checked.
 #[derive(Clone, Copy)]
 pub struct Proposal {
+    /// The ramp rate, in mHz/s.
     pub rate: u32,
+    /// In mHz.
     pub reference_dip: u32,
+    /// In mHz.
     pub dead_band: u32,
+    /// In mHz.
     pub switch_dip: u32,
+    /// The earlier end of the base window, in ms before the disturbance time.
     pub base_begin: u32,
+    /// The later end of the base window, in ms before the disturbance time.
     pub base_end: u32,
 }
 
-// Settings within their limits.
+/// Settings within their limits.
 #[derive(Clone, Copy, Debug, PartialEq, Eq)]
 pub struct Settings {
+    /// The settings that response rules read.
     pub response: Response,
     pub(crate) base: BaseWindow,
 }
 
 impl Settings {
-    // The settings that are asked for, which are refused if any is outside its limits. A constructor, as each
-    // part has one: a `TryFrom` would be the same under another name.
+    /// The settings that are asked for. Refusal 17 if any is outside its limits.
     pub fn new(proposal: Proposal) -> Result<Settings, Refusal>
         ensures granted_exactly_within_the_limits { Granted result (Allowed proposal) (λ s. numbers_of s ≡ proposal) }
     {
@@ -39,7 +45,8 @@ impl Settings {
         })
     }
 
-    // The plain settings.
+    /// The plain settings: rate 125 mHz/s, reference dip 500 mHz, dead band 150 mHz, switch dip 200
+    /// mHz, base window from 20,000 to 8,000 ms before the disturbance time.
     pub fn plain() -> Settings
         ensures has_the_plain_numbers { numbers_of result ≡ plain_numbers }
     {
@@ -60,14 +67,14 @@ impl Settings {
         }
     }
 
-    // The base window.
+    /// The base window.
     pub fn base(&self) -> BaseWindow
         ensures answers_the_base_window { result ≡ self.now.base }
     {
         self.base
     }
 
-    // Takes other settings in the place of these, unless one of them is outside its limits: then these stay.
+    /// Replaces the settings. Refusal 17, and no change, if any new one is outside its limits.
     pub fn change(&mut self, proposal: Proposal) -> Result<(), Refusal>
         ensures changed_exactly_within_the_limits { Granted result (Allowed proposal)
             (λ _. numbers_of self.new ≡ proposal) }

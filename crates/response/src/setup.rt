@@ -1,4 +1,4 @@
-// The parts of the settings that a response rule reads. None of them exists outside its limits.
+//! The settings that response rules read, each within its limits.
 ghost use Rattle.std.specs.Prelude.{◌≡◌, ℕ, ◌≤◌};
 ghost use Rattle.response.specs.Limits.{Within, IsRate, IsReference, IsDeadBand, IsTrigger, Granted};
 
@@ -8,33 +8,39 @@ use crate::limits::{
 };
 use recording::refusal::Refusal;
 
-// How fast the dip is taken to grow, in mHz/s.
+/// The rate of a frequency ramp.
 #[derive(Clone, Copy, Debug, PartialEq, Eq)]
 pub struct Rate {
+    /// In mHz/s, from 1 to 10,000.
     pub mhz_per_s: u32,
     ghost within: { IsRate mhz_per_s },
 }
 
-// A dip that triggers a response, in mHz.
+/// A dip that triggers a response.
 #[derive(Clone, Copy, Debug, PartialEq, Eq)]
 pub struct Trigger {
+    /// In mHz, from 151 to 2,000.
     pub dip: u32,
     ghost within: { IsTrigger dip },
 }
 
-// What the response rules read. Dips are in mHz.
+/// The settings that response rules read.
 #[derive(Clone, Copy, Debug, PartialEq, Eq)]
 pub struct Response {
+    /// The ramp rate.
     pub rate: Rate,
+    /// In mHz, from 160 to 2,000.
     pub reference_dip: u32,
+    /// In mHz, from 0 to 150.
     pub dead_band: u32,
+    /// The trigger of the switching rule.
     pub switch_dip: Trigger,
     ghost reference_within: { IsReference reference_dip },
     ghost dead_within: { IsDeadBand dead_band },
 }
 
 impl Rate {
-    // The rate of so many mHz/s, which is refused outside the limits.
+    /// A rate in mHz/s. Refusal 17 outside its limits.
     pub fn new(mhz_per_s: u32) -> Result<Rate, Refusal>
         ensures granted_exactly_within_the_limits { Granted result (IsRate mhz_per_s)
             (λ rate. rate.mhz_per_s ≡ mhz_per_s) }
@@ -46,7 +52,7 @@ impl Rate {
 }
 
 impl Trigger {
-    // The trigger at a dip, which is refused outside the limits.
+    /// A trigger at a dip in mHz. Refusal 17 outside its limits.
     pub fn new(dip: u32) -> Result<Trigger, Refusal>
         ensures granted_exactly_within_the_limits { Granted result (IsTrigger dip) (λ trigger. trigger.dip ≡ dip) }
     {
@@ -57,7 +63,8 @@ impl Trigger {
 }
 
 impl Response {
-    // What the rules read, which is refused if the reference dip or the dead band is outside its limits.
+    /// The settings that response rules read. Refusal 17 if the reference dip or the dead band,
+    /// both in mHz, is outside its limits.
     pub fn new(
         rate: Rate,
         reference_dip: u32,

@@ -1,4 +1,4 @@
-// The switching rule: the response comes whole once the dip reaches the switch dip.
+//! The switching rule: the whole response comes once the dip reaches the switch dip.
 ghost use Rattle.std.specs.Prelude.{◌≡◌, Some};
 ghost use Rattle.response.specs.Weights.{Weighs, one};
 
@@ -6,9 +6,10 @@ use crate::rule::ResponseRule;
 use crate::setup::{Response, Trigger};
 use crate::weighing::{Dip, Offset, Weight};
 
-// The rule with the settings whose switch dip triggers it.
+/// The rule with its settings: its trigger is their switch dip, its weight is 1.
 #[derive(Clone, Copy)]
 pub struct Switching {
+    /// The settings, of which the rule reads the switch dip.
     pub response: Response,
 }
 

@@ -1,4 +1,4 @@
-// Trials: another base window for a while. However a trial ends, the former window is put back.
+//! Trials: another base window for a while. However a trial ends, the former window is put back.
 ghost use Rattle.std.specs.Prelude.{◌≡◌};
 ghost use Rattle.response.specs.Settings.{with_base};
 ghost use Rattle.response.specs.Trials.{Tried, both_of};
@@ -10,14 +10,15 @@ use crate::task::Task;
 use recording::refusal::Refusal;
 use std::mem;
 
-// A trial of a base window. It holds the settings until it ends.
+/// A trial of a base window. It holds the settings until it is dropped, and then puts the former
+/// window back.
 pub struct Trial<'a> {
     settings: &'a mut Settings,
     former: BaseWindow,
 }
 
 impl<'a> Trial<'a> {
-    // Begins a trial of the window.
+    /// Begins a trial of the window.
     pub fn begin(settings: &'a mut Settings, window: BaseWindow) -> Trial<'a>
         ensures holds_the_settings_lent { result.settings.ghost_name ≡ settings.entry.ghost_name }
         ensures keeps_the_former_window { result.former ≡ settings.old.base }
@@ -27,14 +28,16 @@ impl<'a> Trial<'a> {
         Trial { settings, former }
     }
 
-    // The settings as the trial has them.
+    /// The settings, with the window that is tried.
     pub fn settings(&self) -> &Settings
         ensures settings_as_the_trial_has_them { result.now ≡ self.now.settings.now }
     {
         &*self.settings
     }
 
-    // What a task gives in a trial inside this one, which then stands as it stood.
+    /// What a task gives in a trial inside this one, from `begin` to `end` in ms before the
+    /// disturbance time; this trial's window is in place again afterwards. Refusal 17 outside the
+    /// limits.
     pub fn tried_inside<T: Task>(
         &mut self,
         begin: u32,
@@ -60,10 +63,9 @@ impl Drop for Trial<'_> {
     }
 }
 
-// Each of these calls promises that the settings are as they were: what a call leaves of a value that it
-// borrows is no fact about the value alone, which its type could carry.
+// Each of these calls leaves the settings as they were.
 impl Settings {
-    // What a task gives in a trial of the window.
+    /// What a task gives in a trial of the window.
     pub fn in_trial<T: Task>(&mut self, window: BaseWindow, task: &T) -> Result<T::Answer, Refusal>
         ensures settings_as_before { self.new ≡ self.old }
         ensures answered_with_the_trial_window { result ≡ T.Task.gives task.now (with_base self.old window) }
@@ -72,8 +74,8 @@ impl Settings {
         task.run(trial.settings())
     }
 
-    // The same for a window that is not yet held against its limits. Two numbers and no `BaseWindow`, which
-    // exists only within them.
+    /// What a task gives in a trial of the window from `begin` to `end`, in ms before the
+    /// disturbance time. Refusal 17, without a trial, outside the limits.
     pub fn tried<T: Task>(&mut self, begin: u32, end: u32, task: &T) -> Result<T::Answer, Refusal>
         ensures settings_as_before { self.new ≡ self.old }
         ensures answered_with_the_trial_window_or_refused { Tried (T.Task.gives task.now) self.old begin end result }
@@ -82,7 +84,7 @@ impl Settings {
         self.in_trial(window, task)
     }
 
-    // What a task gives in a trial of the first window, or, where that is refused, in one of the second.
+    /// What a task gives in a trial of the first window, or of the second if the first is refused.
     pub fn first_accepted<T: Task>(
         &mut self,
         first: BaseWindow,
@@ -94,15 +96,15 @@ impl Settings {
             (T.Task.gives task.now (with_base self.old first))
             (T.Task.gives task.now (with_base self.old second)) }
     {
-        // No `or_else`: its contract leaves open what a closure that is not called, and holds the settings,
-        // leaves of them.
+        // A match, since the closure of `or_else` would hold the settings.
         match self.in_trial(first, task) {
             Err(_) => self.in_trial(second, task),
             accepted => accepted,
         }
     }
 
-    // What a task gives in a trial inside a trial, and then in the outer one, to which the inner one returns.
+    /// What a task gives in a trial inside a trial, and then in the outer trial, whose window is in
+    /// place again. The first refusal ends both.
     pub fn both_nested<T: Task>(
         &mut self,
         inner: BaseWindow,

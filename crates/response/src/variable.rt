@@ -1,4 +1,4 @@
-// The variable rule: the response follows the dip, and is weighed by how far the dip had to go.
+//! The variable rule: the response follows the dip, weighed by the ramp dip over the actual one.
 ghost use Rattle.std.specs.Prelude.{◌≡◌, ℕ, ◌≤◌, None};
 ghost use Rattle.response.specs.VariableRule.{VariableLaws, WeightOf, factor_of};
 ghost use Rattle.response.specs.Weights.{Weighs, weight_value};
@@ -8,10 +8,12 @@ use crate::rule::ResponseRule;
 use crate::setup::{Rate, Response, Trigger};
 use crate::weighing::{Dip, Offset, Weight};
 
-// The rule with a ramp rate, which need not be the settings' own.
+/// The rule with its settings and a ramp rate.
 #[derive(Clone, Copy)]
 pub struct Variable {
+    /// The settings, of which the rule reads reference dip and dead band.
     pub response: Response,
+    /// The ramp rate, which may differ from that of the settings.
     pub rate: Rate,
 }
 
@@ -34,7 +36,7 @@ impl ResponseRule for Variable {
 }
 
 impl Variable {
-    // The weight in thousandths of a dip, so that every number is whole.
+    // The weight, with numerator and denominator in thousandths of a mHz, so that both are whole.
     fn factor(&self, dip: Dip, offset: Offset) -> Weight
         ensures { Weighs result (factor_of self.now dip.mhz offset.ms) }
     {
@@ -52,7 +54,8 @@ impl Variable {
     }
 }
 
-// There is one ramp dip and one weight at each dip and offset, and the rule's factor has its value.
+/// There is one ramp dip and one weight at each dip and offset, and the rule's factor has its
+/// value.
 pub fn variable_laws()
     ensures one_ramp_dip_and_one_weight_at_each_dip { VariableLaws }
 {}

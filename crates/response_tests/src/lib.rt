@@ -1,4 +1,6 @@
-// Tests of the settings, the trials, the services and the response rules, with answers worked out by hand.
+//! Tests of settings, trials, services and response rules, with answers worked out by hand.
+//! They try the rules of docs/RULES.md under Settings and trials, Services and groups, and Response
+//! rules.
 #![tactic(auto)]
 
 #[cfg(test)]

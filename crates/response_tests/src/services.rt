@@ -1,4 +1,4 @@
-// Services by their codes.
+//! Services by their codes.
 use disturbance::direction::Direction;
 use recording::refusal::{Reason, Refusal};
 use response::group::{Group, Row, Window};
@@ -6,14 +6,15 @@ use response::service::{Service, Side};
 use std::process::Abort;
 use std::test::Fail;
 
-// What is answered to a text that is no service's code. Written out, since a constant calls no function.
+// The refusal of a text that is not the code of a service. Written out, since a constant cannot
+// call a function.
 const UNKNOWN: Refusal = Refusal {
     reason: Reason::UnknownCode,
     place: 0,
     position: 0,
 };
 
-// The code stands for the service, which has that code, the side, the group and the widest window end.
+// The code is that of the service, which has this side, group and second window's end.
 fn known(rt: &impl Abort, code: &str, service: Service, side: Side, group: Group, end: u32) {
     assert_eq!(rt; Service::from_code(code), Ok(service));
     assert_eq!(rt; code.parse::<Service>(), Ok(service));

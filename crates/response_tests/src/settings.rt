@@ -1,4 +1,4 @@
-// Settings at both sides of each limit.
+//! Settings at both sides of each limit.
 use recording::refusal::{Layer, Reason, Refusal};
 use response::base::BaseWindow;
 use response::settings::{Proposal, Settings};
@@ -6,7 +6,7 @@ use response::setup::{Rate, Response, Trigger};
 use std::process::Abort;
 use std::test::Fail;
 
-// Written out in each test crate that asks with it, since no crate is shared by tests.
+// Written out in each test crate that uses it, since test crates share no crate.
 const PLAIN: Proposal = Proposal {
     rate: 125,
     reference_dip: 500,
@@ -16,19 +16,20 @@ const PLAIN: Proposal = Proposal {
     base_end: 8_000,
 };
 
-// What is answered to a setting outside its limits. Written out, since a constant calls no function.
+// The refusal of a setting outside its limits. Written out, since a constant cannot call a
+// function.
 const OUTSIDE: Refusal = Refusal {
     reason: Reason::SettingOutside,
     place: 0,
     position: 0,
 };
 
-// Settings that are asked for are refused.
+// The proposal is refused.
 fn refused(rt: &impl Abort, proposal: Proposal) {
     assert_eq!(rt; Settings::new(proposal), Err(OUTSIDE));
 }
 
-// Settings that are asked for are granted.
+// The proposal is granted.
 fn granted(rt: &impl Abort, proposal: Proposal) {
     assert!(rt; Settings::new(proposal).is_ok());
 }

@@ -1,4 +1,4 @@
-// Trials of a base window, and every way out of one.
+//! Trials of a base window, and every way out of one.
 ghost use Rattle.std.specs.Prelude.{◌≡◌, ℕ, ◌≤◌};
 ghost use Rattle.response_tests.specs.Spans.{span_of};
 
@@ -26,20 +26,21 @@ impl Task for Span {
     }
 }
 
-// What the task answers to a window that is too long. Written out, since a constant calls no function.
+// The refusal of the task for a window that is too long. Written out, since a constant cannot call
+// a function.
 const TOO_LONG: Refusal = Refusal {
     reason: Reason::NoBaseSample,
     place: 0,
     position: 0,
 };
 
-// The window of plain settings, which stands again after each trial.
+// The window of the plain settings, in place again after each trial.
 const PLAIN: BaseWindow = BaseWindow {
     begin: 20_000,
     end: 8_000,
 };
 
-// The length of the window in a trial, which a refusal leaves by `?`.
+// The length of the window in a trial that a refusal ends by `?`.
 fn span_in_trial(settings: &mut Settings, window: BaseWindow) -> Result<u32, Refusal> {
     let trial = Trial::begin(settings, window);
     let span = Span.run(trial.settings())?;

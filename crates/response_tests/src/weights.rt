@@ -1,4 +1,4 @@
-// Weights of both response rules.
+//! Weights of both response rules.
 ghost use Rattle.response.specs.Limits.{IsOffset};
 ghost use Rattle.std.specs.Prelude.{pos, negsuc, ◌≤ℤ◌};
 
@@ -18,8 +18,8 @@ fn plain() -> Variable {
     }
 }
 
-// What the rule weighs at a dip of so many mHz and an offset of so many ms, as n and d: a `Weight` has no
-// equality of its own.
+// The rule's weight at a dip in mHz and an offset in ms, as n and d, since a `Weight` cannot be
+// compared.
 fn weighed<R: ResponseRule>(rule: &R, mhz: i32, ms: u32) -> (u32, u32)
     requires low { negsuc 2999 ≤ℤ mhz }
     requires high { mhz ≤ℤ pos 3000 }

@@ -1,4 +1,4 @@
-// The figures of a line: numbers in decimal digits, floats and bytes in hexadecimal ones.
+//! The numbers of a line: decimal digits, and hexadecimal ones for floats and bytes.
 ghost use Rattle.std.specs.Prelude.{◌≡◌, Decides};
 ghost use Rattle.std.specs.Option.{SomeIff};
 ghost use Rattle.script.specs.Figures.{IsNumber, number_of, IsPlace, IsTable, IsPower, power_of, IsAmount, amount_of, IsBits, float_of, IsBytes, IsTarget, target_of, IsWhole, whole_of, IsFloating, floating_of};
@@ -8,7 +8,7 @@ use std::num::f32_from_bits_with_nan;
 use timeline::sample::MOST_SAMPLES;
 use timeline::target::Target;
 
-// A time, a frequency or a setting.
+// A time in ms, a frequency in mHz or a setting.
 pub(crate) fn number(word: &str) -> Option<u32>
     ensures { SomeIff result (IsNumber word.now) (number_of word.now) }
 {
@@ -22,7 +22,7 @@ pub(crate) fn place(word: &str) -> Option<usize>
     word.parse().ok()
 }
 
-// The places of a table, as many as a docket may hold samples at most.
+// The number of places of a new table: at most the samples that a docket may hold.
 pub(crate) fn table(word: &str) -> Option<usize>
     ensures { SomeIff result (IsTable word.now) (number_of word.now) }
 {
@@ -33,7 +33,7 @@ pub(crate) fn table(word: &str) -> Option<usize>
     Some(places)
 }
 
-// A power in W, which may be below 0.
+// A power in W, which may be negative.
 fn power(word: &str) -> Option<i32>
     ensures { SomeIff result (IsPower word.now) (power_of word.now) }
 {
@@ -47,7 +47,7 @@ pub(crate) fn amount(word: &str) -> Option<i64>
     word.parse().ok()
 }
 
-// A float by its 32 bits.
+// A float, from its 32 bits in hexadecimal digits.
 fn float(word: &str) -> Option<f32>
     ensures { SomeIff result (IsBits word.now) (float_of word.now) }
 {
@@ -55,7 +55,7 @@ fn float(word: &str) -> Option<f32>
     Some(f32_from_bits_with_nan(bits))
 }
 
-// Whether a word writes bytes, two hexadecimal digits each.
+// Whether a word is a list of bytes, two hexadecimal digits each.
 pub(crate) fn is_bytes(word: &str) -> bool
     ensures { Decides result (IsBytes word.now) }
 {

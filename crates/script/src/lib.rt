@@ -1,4 +1,5 @@
-// Scripts of calls: what a line of a script says.
+//! Scripts of calls: what a line says.
+//! For `fcas_replay`. docs/SCRIPTS.md states the lines.
 #![tactic(auto)]
 
 pub mod command;

@@ -1,4 +1,4 @@
-// What a verb says with the words that follow it.
+//! What a verb says with the words that follow it.
 ghost use Rattle.std.specs.Prelude.{◌≡◌, length};
 ghost use Rattle.std.specs.Option.{SomeIff};
 ghost use Rattle.script.specs.Lines.{Tells, TakesBytes, first_of, word};
@@ -10,7 +10,7 @@ use crate::verb::Verb;
 use recording::makes::Make;
 use response::settings::Proposal;
 
-// What a verb says that stands alone.
+// The command of a verb without further words.
 fn alone<'a>(command: Command<'a>, words: &[&'a str]) -> Option<Command<'a>>
     ensures { SomeIff result (length words.now ≡ 0) command.entry }
 {
@@ -26,7 +26,7 @@ fn places<'a>(words: &[&'a str]) -> Option<Command<'a>>
     Some(Command::Places(table(places)?))
 }
 
-// Each of the six by its name, in one order.
+// The six settings, each after its name, in this order.
 fn settings<'a>(words: &[&'a str]) -> Option<Command<'a>>
     ensures { Tells Verb.Settings words.now result }
 {
@@ -158,7 +158,7 @@ fn deliver<'a>(words: &[&'a str]) -> Option<Command<'a>>
     Some(Command::Deliver(code, amount(enabled)?))
 }
 
-// What a verb says with its words, or none where they are not what it takes.
+// The command of a verb with its words, or none if the words do not fit.
 pub(crate) fn said<'a>(verb: Verb, words: &[&'a str]) -> Option<Command<'a>>
     ensures { Tells verb words.now result }
 {

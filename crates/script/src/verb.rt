@@ -1,9 +1,9 @@
-// Verbs: the first word of a line.
+//! Verbs: the first word of a line.
 ghost use Rattle.std.specs.Prelude.{◌≡◌, ◌≢◌, MatchOption};
 ghost use Rattle.script.specs.declared.verb.Verb.{Verb as First};
 ghost use Rattle.script.specs.Verbs.{name_of, Apart};
 
-// What a line asks for. Each verb has one name, and takes its words in one order.
+/// The kind of a line. Each verb has one name and one order of words, which docs/SCRIPTS.md lists.
 #[derive(Clone, Copy, Debug, PartialEq, Eq)]
 pub enum Verb {
     New,
@@ -30,7 +30,7 @@ pub enum Verb {
 }
 
 impl Verb {
-    // The verb with this name, if there is one.
+    /// The verb with this name, or none.
     pub fn named(name: &str) -> Option<Verb>
         ensures the_verb_of_this_name_or_none { MatchOption result
             ((v : First) → name.now ≢ name_of v) (λ v. name.now ≡ name_of v) }
@@ -62,7 +62,7 @@ impl Verb {
     }
 }
 
-// No two verbs have one name, so a line's first word names one verb at most.
+/// No two verbs share a name, so a line's first word names one verb at most.
 pub fn names_are_apart()
     ensures no_two_verbs_share_a_name { Apart }
 {}

@@ -1,4 +1,4 @@
-// The entries of a timeline: whatever carries a time.
+//! The interface of a timeline's entries, which samples and targets meet.
 ghost use Rattle.std.specs.Prelude.{◌≡◌, ℕ, []};
 ghost use Rattle.timeline.specs.Checks.{Allows};
 ghost use Rattle.timeline.specs.Entries.{Kind};
@@ -6,6 +6,7 @@ ghost use Rattle.timeline.specs.Faults.{outside_limits};
 
 use recording::refusal::{Field, Reason};
 
+/// What carries a time and has limits.
 pub trait Entry {
     ghost kind: { Kind Self };
 
@@ -13,19 +14,19 @@ pub trait Entry {
     // What each `impl` must prove.
     ghost most_is: { MOST ≡ kind.most };
 
-    // The greatest count.
+    /// The greatest count of a timeline of such entries.
     const MOST: usize;
 
+    /// The time, in ms.
     fn time(&self) -> u32
         ensures answers_the_time_of_the_entry { result ≡ kind.time self.now };
 
-    // The first field that is outside its limits, if one is. A question: soundness asks it too, where
-    // nothing is refused.
+    /// The first field that is outside its limits, or none.
     fn outside(&self) -> Option<Field>
         ensures answers_the_first_field_outside { result ≡ kind.outside self.now };
 }
 
-// Whether each field of an entry is within its limits, where a field that is not sends a call back.
+// Checks the fields of an entry: the first one outside its limits is the reason.
 pub(crate) fn check_fields<E: Entry>(e: &E) -> Result<(), Reason>
     ensures { Allows (outside_limits E.kind e.now []) tt result }
 {

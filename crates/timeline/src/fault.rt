@@ -1,6 +1,5 @@
-// What sends a call on a timeline back: the first in the checking order that applies.
-// The table and the count come apart: a closed docket's table and a delivery's are lent to be read,
-// and no `Timeline`, which holds its table to be written, can be made of them.
+//! The checks of a timeline's calls: the first reason that applies. They take table and count as
+//! two parameters, since a closed docket and a delivery only read their tables.
 ghost use Rattle.std.specs.Prelude.{[], ◌∷◌};
 ghost use Rattle.timeline.specs.Checks.{Allows};
 ghost use Rattle.timeline.specs.Faults.{other_table, put_checks, amend_checks, strike_checks};
@@ -10,7 +9,7 @@ use crate::entry::{Entry, check_fields};
 use crate::order::{is_misplaced, is_sound, time_after, time_before};
 use recording::refusal::Reason;
 
-// Whether a table is the count's: it holds as many entries, within their limits and in order.
+/// Checks that a table has the counted entries, within their limits and in order: refusal 1.
 pub fn check_table<E: Entry>(table: &[E], count: usize) -> Result<(), Reason>
     ensures allowed_or_other_table { Allows (other_table E.kind count table.now ∷ []) tt result }
 {
@@ -21,7 +20,7 @@ pub fn check_table<E: Entry>(table: &[E], count: usize) -> Result<(), Reason>
     }
 }
 
-// Whether an entry may be put at the end.
+/// Checks whether an entry may be put at the end: refusal 1, 4, 5 or 6.
 pub fn check_put<E: Entry>(table: &[E], count: usize, e: &E) -> Result<(), Reason>
     ensures allowed_or_the_first_fault_of_put { Allows (put_checks E.kind count table.now e.now) tt result }
 {
@@ -31,7 +30,7 @@ pub fn check_put<E: Entry>(table: &[E], count: usize, e: &E) -> Result<(), Reaso
     Ok(())
 }
 
-// Whether the entry at a place may be replaced by another.
+/// Checks whether another entry may replace the one at a place: refusal 1, 2, 4 or 6.
 pub fn check_amend<E: Entry>(table: &[E], count: usize, place: usize, e: &E) -> Result<(), Reason>
     ensures allowed_or_the_first_fault_of_amend { Allows (amend_checks E.kind count table.now place e.now) tt result }
 {
@@ -46,7 +45,7 @@ pub fn check_amend<E: Entry>(table: &[E], count: usize, place: usize, e: &E) -> 
     Ok(())
 }
 
-// Whether the entry at a place may be taken out.
+/// Checks whether the entry at a place may be removed: refusal 1 or 2.
 pub fn check_strike<E: Entry>(table: &[E], count: usize, place: usize) -> Result<(), Reason>
     ensures allowed_or_the_first_fault_of_strike { Allows (strike_checks E.kind count table.now place) tt result }
 {

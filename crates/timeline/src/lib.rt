@@ -1,4 +1,5 @@
-// Timelines: entries in order of their times, in a table of the caller's.
+//! Timelines: put, amend and strike of entries in order of their times, in the caller's table.
+//! For samples and dispatch targets. docs/RULES.md states the rules under Timelines.
 #![tactic(auto)]
 
 pub mod end;

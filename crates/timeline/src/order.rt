@@ -1,17 +1,17 @@
-// Entries in order of their times: whether a table's entries are, and where a time may stand.
+//! The order of entries: whether a table is in order, and the times of neighbours.
 ghost use Rattle.std.specs.Prelude.{◌≡◌, ℕ, ◌+◌, ◌<◌, length, None, Decides, slice_index_or};
 ghost use Rattle.timeline.specs.Orders.{Sound, is_sound, misplaced, time_before, time_after};
 
 use crate::entry::Entry;
 
-// Whether a time does not lie between those of its neighbours.
+// Whether a time is not later than the entry before, or not earlier than the entry after.
 pub(crate) fn is_misplaced(before: Option<u32>, after: Option<u32>, time: u32) -> bool
     ensures { result ≡ misplaced before after time }
 {
     before.is_some_and(|earlier| time <= earlier) || after.is_some_and(|later| later <= time)
 }
 
-// The time of the entry before a place.
+/// The time in ms of the entry before a place, or none if there is no such entry.
 pub fn time_before<E: Entry>(entries: &[E], place: usize) -> Option<u32>
     ensures time_of_the_entry_before_or_none { result ≡ time_before E.kind entries.now place }
 {
@@ -19,7 +19,7 @@ pub fn time_before<E: Entry>(entries: &[E], place: usize) -> Option<u32>
     Some(entry.time())
 }
 
-// The time of the entry after a place.
+// The time of the entry after a place, or none if there is no such entry.
 pub(crate) fn time_after<E: Entry>(entries: &[E], place: usize) -> Option<u32>
     ensures { result ≡ time_after E.kind entries.now place }
 {
@@ -43,8 +43,7 @@ fn are_rising<E: Entry>(entries: &[E]) -> bool
     entries.is_sorted_by(|before, after| before.time() < after.time())
 }
 
-// Whether a table holds as many entries as are counted, each within its limits and later than the
-// one before.
+/// Whether a table has the counted entries, each within its limits and later than the one before.
 pub fn is_sound<E: Entry>(table: &[E], count: usize) -> bool
     ensures as_computed_from_the_table { result ≡ is_sound E.kind count table.now }
     ensures true_exactly_where_the_table_is_sound { Decides result (Sound E.kind count table.now) }

@@ -1,4 +1,4 @@
-// Samples as entries of a timeline.
+//! Samples as entries of a timeline.
 ghost use Rattle.std.specs.Prelude.{◌≡◌, refl};
 ghost use Rattle.timeline.specs.Checks.{TheFirst};
 ghost use Rattle.timeline.specs.Samples.{samples, sample_fields};
@@ -7,7 +7,7 @@ use crate::entry::Entry;
 use recording::refusal::Field;
 use recording::sample::{Sample, is_frequency, is_power, is_time};
 
-// The greatest count of a timeline of samples.
+/// The greatest count of a timeline of samples.
 pub const MOST_SAMPLES: usize = 4096;
 
 impl Entry for Sample {

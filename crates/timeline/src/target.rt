@@ -1,4 +1,4 @@
-// Dispatch targets, and as entries of a timeline.
+//! Dispatch targets, as entries of a timeline.
 ghost use Rattle.std.specs.Prelude.{◌≡◌, refl};
 ghost use Rattle.timeline.specs.Checks.{TheFirst};
 ghost use Rattle.timeline.specs.Targets.{targets, target_fields};
@@ -7,14 +7,15 @@ use crate::entry::Entry;
 use recording::refusal::Field;
 use recording::sample::{is_power, is_time};
 
-// The greatest count of a timeline of targets.
+/// The greatest count of a timeline of targets.
 pub const MOST_TARGETS: usize = 16;
 
-// The power that a plant is to reach at a time: time in ms, power in W with flow into the network
-// positive.
+/// The power that a plant is to reach at a time.
 #[derive(Clone, Copy, Debug, PartialEq, Eq)]
 pub struct Target {
+    /// In ms.
     pub time: u32,
+    /// In W, with flow into the network positive.
     pub power: i32,
 }
 
