@@ -10,9 +10,6 @@ use Rattle.disturbance.specs.Band.{Inside, Beyond, Outside}
 use Rattle.disturbance.specs.Disturbance.{Leaves, LeavesBy, OutsideAfter, Disturbed, Answers, leaving, disturbance_from, disturbance_of, DisturbanceLaws}
 use Rattle.disturbance.proofs.Times.{next_time}
 use Rattle.disturbance.proofs.Scans.{line_here}
-use Rattle.disturbance.specs.declared.stretch.Stretch.{Stretch}
-use Rattle.disturbance.specs.Stretches.{FirstFound}
-use Rattle.disturbance.proofs.Stretches.{found_as}
 use Rattle.disturbance.proofs.Leaving.{side_unique, beyond_outside, leaving_is}
 
 -- ---- at most one
@@ -34,7 +31,7 @@ answers_unique xs (Some d) (Some e) h k = ap Some (disturbed_unique xs d e h k)
 
 -- ---- at the first place that leaves
 module _ (xs : List Sample) (s : Sound xs) where
-  disturbed_at : (k : ℕ) (d : Disturbance) → 1 ≤ k → k < length xs → ((j : ℕ) → j < k → Leaves xs j → ⊥) → LeavesBy (at xs (k - 1)) (at xs k) d → Disturbed xs d
+  pub disturbed_at : (k : ℕ) (d : Disturbance) → 1 ≤ k → k < length xs → ((j : ℕ) → j < k → Leaves xs j → ⊥) → LeavesBy (at xs (k - 1)) (at xs k) d → Disturbed xs d
   disturbed_at k d one there below h =
       let f = h.line in
       record {
@@ -48,18 +45,8 @@ module _ (xs : List Sample) (s : Sound xs) where
       }
 
   -- a place that does not leave
-  not_leaving : (k : ℕ) → (Inside (at xs (k - 1)) → Inside (at xs k)) → Leaves xs k → ⊥
+  pub not_leaving : (k : ℕ) → (Inside (at xs (k - 1)) → Inside (at xs k)) → Leaves xs k → ⊥
   not_leaving k h l = l.outside (h l.inside)
-
-  abbrev Leaving : Sample → Sample → Option Disturbance → Type 0
-  Leaving a b o = MatchOption o (Inside a → Inside b) (λ d. LeavesBy a b d)
-
-  -- what is found on the first stretch that leaves
-  answers_from : {finds : Stretch → Option Disturbance → Type 0} → ((p : Stretch) (o : Option Disturbance) → finds p o → Leaving p.before p.after o)
-      → (o : Option Disturbance) → FirstFound finds xs o → Answers xs o
-  answers_from says None none = λ k l. not_leaving k (found_as Leaving says (none k l.later l.there)) l
-  answers_from says (Some d) f =
-      disturbed_at f.place d f.later f.there (λ j lt l. not_leaving j (found_as Leaving says (f.earlier j l.later lt)) l) (found_as Leaving says f.found)
 
   option_or_answers : {N : Type 0} {F : Disturbance → Type 0} (o rest : Option Disturbance) → MatchOption o N F → ((d : Disturbance) → F d → Disturbed xs d) → (N → Answers xs rest) → Answers xs (option_or o rest)
   option_or_answers (Some d) rest h found none = found d h
@@ -77,13 +64,6 @@ module _ (xs : List Sample) (s : Sound xs) where
   pub worked_out : Answers xs (disturbance_of xs)
   unfolding disturbance_of
   worked_out = from_place (length xs - 1) 1 (omega arith) (omega arith) (λ j lt l. omega (arith, l.later))
-
--- what is found is the answer, and the one worked out
-pub answers_is : (xs : List Sample) (s : Sound xs) → {finds : Stretch → Option Disturbance → Type 0} → ((p : Stretch) (o : Option Disturbance) → finds p o → Leaving xs s p.before p.after o)
-    → (o : Option Disturbance) → FirstFound finds xs o → Answers xs o × (o ≡ disturbance_of xs)
-answers_is xs s says o f =
-    let h = answers_from xs s says o f in
-    (h, answers_unique xs o (disturbance_of xs) h (worked_out xs s))
 
 pub disturbance_laws_lem : DisturbanceLaws
 disturbance_laws_lem = record {

@@ -1,17 +1,18 @@
 -- The line from a sample inside to one outside.
-use Rattle.std.proofs.Common.{◌≡◌, ℕ, ◌+◌, ◌-◌, ◌*◌, ◌<◌, ◌≤◌, true, cond, ◌&&◌, ltb, leb, pos, ◌+ℤ◌, ◌*ℤ◌, ◌<ℤ◌, is_some, Some, None, Option, refl, subst, inl, inr, mul-le-mul_right, arith, MatchOption}
+use Rattle.std.proofs.Common.{◌≡◌, ℕ, ◌+◌, ◌-◌, ◌*◌, ◌<◌, ◌≤◌, true, cond, ◌&&◌, ltb, leb, pos, ◌+ℤ◌, ◌*ℤ◌, ◌<ℤ◌, is_some, List, length, Some, None, Option, refl, subst, inl, inr, mul-le-mul_right, arith, MatchOption}
 use Rattle.std.proofs.lemmas.Int.{ints}
 use Rattle.std.proofs.lemmas.Bool.{some_since, cond_both, and_parts, and_cases, ltb-true, ltb-false, leb-true, leb-false}
 use Rattle.exact.specs.First.{First, FirstOrNone}
 use Rattle.recording.specs.declared.sample.Sample.{Sample}
 use Rattle.disturbance.specs.declared.direction.Direction.{Direction}
 use Rattle.disturbance.specs.declared.direction.Direction.TheVariants.{Low, High}
-use Rattle.disturbance.specs.declared.stretch.Stretch.{Stretch}
+use Rattle.disturbance.specs.Trace.{at, Sound}
 use Rattle.disturbance.specs.Band.{lowest, highest, Inside, Beyond, Outside}
 use Rattle.disturbance.specs.Passing.{Passes, PassedBetween}
 use Rattle.disturbance.specs.Disturbance.{LeavesBy, leaves_to, leaving_time, timed, leaving}
 use Rattle.disturbance.proofs.Heights.{Between, rest_times, under_sum, sum_under, over_sum, sum_over}
 use Rattle.disturbance.proofs.Quotients.{past_edge}
+use Rattle.disturbance.proofs.Times.{next_time}
 use Rattle.disturbance.proofs.Scans.{ReachedBetween, between_as}
 
 -- for times p and q that make up n
@@ -64,9 +65,9 @@ pub record Way (d : Direction) (a b : Sample) : Type 0 where
   pub inside : Inside a
   pub beyond : Beyond d b
 
--- of a stretch its order and its limits are known
-pub way : (p : Stretch) (d : Direction) → Inside p.before → Beyond d p.after → Way d p.before p.after
-way p d inside beyond = record { times = p.order; high = p.after_within.2; inside = inside; beyond = beyond }
+-- of neighbours in a sound trace the order and the limits are known
+pub way : (xs : List Sample) (s : Sound xs) (k : ℕ) (d : Direction) → 1 ≤ k → k < length xs → Inside (at xs (k - 1)) → Beyond d (at xs k) → Way d (at xs (k - 1)) (at xs k)
+way xs s k d one there inside beyond = record { times = next_time xs s k one there; high = (s.1 k there).2; inside = inside; beyond = beyond }
 
 -- past the edge of the band, after sample a
 abbrev pub PastEdge : Direction → Sample → Sample → ℕ → Type 0

@@ -1,14 +1,13 @@
 //! The disturbance on a trace: its time and its direction.
-ghost use Rattle.std.specs.Prelude.{◌≡◌, ◌+◌, true, MatchOption};
+ghost use Rattle.std.specs.Prelude.{◌≡◌, ◌+◌, true};
 ghost use Rattle.exact.specs.First.{FirstOrNone};
-ghost use Rattle.disturbance.specs.Band.{highest, Inside};
+ghost use Rattle.disturbance.specs.Band.{highest};
 ghost use Rattle.disturbance.specs.Passing.{PassedBetween};
-ghost use Rattle.disturbance.specs.Disturbance.{LeavesBy, Answers, disturbance_of, DisturbanceLaws};
+ghost use Rattle.disturbance.specs.Disturbance.{Answers, disturbance_of, DisturbanceLaws};
 
 use crate::band::{HIGHEST_INSIDE, is_inside, side};
 use crate::direction::Direction;
 use crate::passing::{Mark, Search};
-use crate::scan::first_found;
 use crate::stretch::Stretch;
 use crate::trace::Trace;
 
@@ -34,19 +33,6 @@ impl Stretch {
             from: self.before.time as u64 + 1,
         })
     }
-
-    // The disturbance on the stretch, if it begins inside and ends outside.
-    fn leaving(self) -> Option<Disturbance>
-        ensures { MatchOption result (Inside self.before → Inside self.after) (λ d. LeavesBy self.before self.after d) }
-    {
-        if !is_inside(self.before) {
-            return None;
-        }
-        let direction = side(self.after)?;
-        // The line passes the edge on the way out, so there is a time.
-        let time = self.first_past_edge(direction).unwrap();
-        Some(Disturbance { time, direction })
-    }
 }
 
 /// The disturbance on the first stretch that begins inside and ends outside, or none.
@@ -54,7 +40,25 @@ pub fn find_disturbance(trace: Trace) -> Option<Disturbance>
     ensures first_departure_from_the_band_or_none { Answers trace.entry.samples.now result }
     ensures as_computed_from_the_samples { result ≡ disturbance_of trace.entry.samples.now }
 {
-    first_found(trace, |stretch| stretch.leaving())
+    // By index, with the stretch made only where the line leaves the band: this costs least.
+    let samples = trace.samples;
+    for k in 1..samples.len() {
+        if !is_inside(samples[k - 1]) {
+            continue;
+        }
+        if is_inside(samples[k]) {
+            continue;
+        }
+        let stretch = Stretch {
+            before: samples[k - 1],
+            after: samples[k],
+        };
+        // The later sample is outside, so it has a side, and the line passes the edge on the way.
+        let direction = side(stretch.after).unwrap();
+        let time = stretch.first_past_edge(direction).unwrap();
+        return Some(Disturbance { time, direction });
+    }
+    None
 }
 
 /// Sound samples have one disturbance at most, and it can be computed from them.

@@ -1,6 +1,6 @@
 //! A trace: samples within their limits, at times that strictly rise.
-ghost use Rattle.std.specs.Prelude.{◌≡◌, ℕ, ◌<◌, length, Decides, MatchOption};
-ghost use Rattle.disturbance.specs.Trace.{at, Rising, Sound, Within};
+ghost use Rattle.std.specs.Prelude.{◌≡◌, ◌<◌, Decides, MatchOption};
+ghost use Rattle.disturbance.specs.Trace.{Sound, Within};
 
 use recording::sample::{Sample, is_frequency, is_power, is_time};
 
@@ -19,25 +19,20 @@ fn is_within(sample: Sample) -> bool
     is_time(sample.time) && is_frequency(sample.frequency) && is_power(sample.power)
 }
 
-// Whether every sample is within its limits.
-fn are_within(samples: &[Sample]) -> bool
-    ensures { Decides result ((k : ℕ) → k < length samples.now → Within (at samples.now k)) }
+// Whether a sample may come after another: it is within its limits, and later.
+fn may_follow(before: Sample, sample: Sample) -> bool
+    ensures { Decides result (Within sample × (before.time < sample.time)) }
 {
-    samples.iter().all(|sample| is_within(*sample))
+    is_within(sample) && before.time < sample.time
 }
 
-// Whether each sample is later than the one before.
-fn are_rising(samples: &[Sample]) -> bool
-    ensures { Decides result (Rising samples.now) }
-{
-    samples.is_sorted_by(|before, after| before.time < after.time)
-}
-
-/// Whether samples are within their limits and at times that strictly rise.
+/// Whether samples are within their limits and at times that strictly rise. One pass, which ends at
+/// the first sample that breaks either.
 pub fn is_sound(samples: &[Sample]) -> bool
     ensures true_exactly_where_the_samples_are_sound { Decides result (Sound samples.now) }
 {
-    are_within(samples) && are_rising(samples)
+    samples.first().is_none_or(|first| is_within(*first))
+        && samples.is_sorted_by(|before, sample| may_follow(*before, *sample))
 }
 
 impl<'a> Trace<'a> {

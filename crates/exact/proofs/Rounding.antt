@@ -3,9 +3,9 @@ use Rattle.std.proofs.Common.{◌≡◌, ℕ, ◌+◌, ◌*◌, ◌<◌, ◌≤�
 use native.Mathlib.Nat.{lt-div-mul-add}
 use Rattle.std.specs.Int.{int_div_euclid}
 use borrow.Author.Differences.{up, down, ints, sum_is_lem, same_in}
-use Rattle.exact.specs.Fractions.{Fraction, ◌⊕◌, ◌·◌, ◌≼◌, whole, frac}
+use Rattle.exact.specs.Fractions.{Fraction, ◌⊕◌, ◌·◌, ◌≼◌, ◌≺◌, whole, frac}
 use Rattle.exact.specs.Rounding.{HalfUp, half_up, and_half, Rounds}
-use Rattle.exact.proofs.Naturals.{Reads, reads_self, reads-⊕, reads_whole, reads_frac, reads-·, reads_whole_times, ≼-in, ≼-out}
+use Rattle.exact.proofs.Naturals.{Reads, reads_self, reads-⊕, reads_whole, reads_frac, reads-·, reads_whole_times, ≼-in, ≼-out, ≺-in}
 use Rattle.exact.proofs.Near.{Near, under_in}
 
 -- rounded down
@@ -63,6 +63,9 @@ half_up_greatest x z h =
     let k = ≼-out (reads_whole z) (reads_half x) h in
     let lt : up z + down (half_up x) < up (half_up x) + down z + 1 = lt_of_mul-lt-mul_right x.bottom (omega (arith, nearest x)) in
     omega (arith, ints)
+
+pub half_up_above : (x : Fraction) → and_half x ≺ whole (half_up x) ⊕ whole (pos 1)
+half_up_above x = ≺-in (reads_half x) (reads-⊕ (reads_whole (half_up x)) (reads_whole (pos 1))) (omega (arith, nearest x))
 
 -- at most one half away, in hundredths
 pub half_up_near : (x : Fraction) → Near 50 (whole (half_up x)) x

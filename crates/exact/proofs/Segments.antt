@@ -7,7 +7,7 @@ use Rattle.exact.proofs.Near.{Near, near_more, near_trans, near-⊕, near-·, ne
 use Rattle.exact.proofs.NearLines.{weighted}
 use Rattle.exact.proofs.Order.{reads_by}
 
-pub near_sym : {x y : Fraction} → Near 0 x y → Near 0 y x
+pub near_sym : {n : ℕ} {x y : Fraction} → Near n x y → Near n y x
 near_sym h = record { over = h.under; under = h.over }
 
 -- equal as numbers, step by step

@@ -5,7 +5,6 @@ use Rattle.std.proofs.lemmas.Int.{clamps}
 use Rattle.std.proofs.lemmas.Bool.{leb-true, le-leb}
 use Rattle.std.proofs.lemmas.Bool.Decides.{Decides-and}
 use Rattle.exact.specs.Fractions.{whole, ◌·◌, ◌÷◌}
-use Rattle.exact.specs.Lines.{line}
 use Rattle.exact.proofs.Near.{near-·, near-÷, near_equal, equal_near}
 use Rattle.exact.proofs.Rounding.{half_up_value}
 use Rattle.exact.proofs.Averages.{line_level, average_level}
@@ -14,11 +13,11 @@ use Rattle.disturbance.proofs.Quotients.{rounded_steps}
 use Rattle.response.specs.declared.group.Window.{Window}
 use Rattle.figure.specs.declared.point.Point.{Point}
 use Rattle.figure.specs.Points.{Rises}
-use Rattle.figure.specs.Steps.{to_half_up, inside, used}
+use Rattle.figure.specs.Steps.{to_half_up, inside, window_end, value_of, used}
 use Rattle.figure.specs.Windows.{ramp_start, ramp_time, placed, Empty}
 use Rattle.figure.specs.Laws.{BaseIsSigned, RampIsFirst, RecoveredBy, EmptyByRecovery, LevelValue}
 use Rattle.figure.proofs.Rising.{inside_climbs}
-use Rattle.figure.proofs.Curves.{averaged, averaged_same, value_is}
+use Rattle.figure.proofs.Curves.{value_of_same, value_is}
 
 pub base_is_signed : BaseIsSigned
 base_is_signed T base t =
@@ -49,13 +48,13 @@ empty_by_recovery = record { empty = empty_recovered; recovered = recovered_empt
 
 -- ---- a level response
 module _ (z : ℤ) (used : List Point) (w : Window) where
-  level_end : (t : ℕ) → 0 < length used → to_half_up (line (λ p. p.time) (λ _. whole z) used t) ≡ whole z
+  level_end : (t : ℕ) → 0 < length used → window_end to_half_up (λ _. whole z) used t ≡ whole z
   level_end t some =
       let level = line_level (whole z) (λ (p : Point). p.time) used t some in
       ap whole (half_up_value _ _ level.0 level.1 ∙ half_up_of_whole z)
 
-  level_averaged : Rises used → 0 < length used → w.start < w.end → averaged to_half_up (λ _. whole z) used w ≡ to_half_up (whole z · w.multiplier ÷ 100)
-  level_averaged rises some less =
+  pub level_value_of_any_points : Rises used → 0 < length used → w.start < w.end → value_of to_half_up (λ _. whole z) used w ≡ to_half_up (whole z · w.multiplier ÷ 100)
+  level_value_of_any_points rises some less =
       let start = level_end w.start some in
       let end = level_end w.end some in
       let between = inside w.start w.end used in
@@ -64,4 +63,4 @@ module _ (z : ℤ) (used : List Point) (w : Window) where
       rw (start, end) (ap whole (half_up_value _ _ near.0 near.1))
 
 pub level_value : LevelValue
-level_value c z w rises some less level = value_is to_half_up c w ∙ averaged_same _ _ to_half_up (used c) w level ∙ level_averaged z (used c) w rises some less
+level_value c z w rises some less level = value_is to_half_up c w ∙ value_of_same _ _ to_half_up (used c) w level ∙ level_value_of_any_points z (used c) w rises some less

@@ -42,8 +42,8 @@ use Rattle.figure.specs.declared.point.Point.{Point}
 use Rattle.figure.specs.declared.report.Report.{Report}
 use Rattle.figure.specs.declared.span.Span.{Span}
 use Rattle.figure.specs.Points.{turned as point_of, course}
-use Rattle.figure.specs.Steps.{Rounding, Case, unrounded, hundredths, to_half_up, power, base_points, used_points, used, trajectory, rise, push_with, base_push, base, value, lesser_of, delivery}
-use Rattle.figure.proofs.Curves.{averaged, from_base, value_is}
+use Rattle.figure.specs.Steps.{Rounding, Case, unrounded, hundredths, to_half_up, power, base_points, used_points, value_of, used, trajectory, rise, push_with, base_push, base, value, lesser_of, delivery}
+use Rattle.figure.proofs.Curves.{from_base, value_is}
 use Rattle.figure.specs.Asked.{Asked, for_service, TriggerTime, Times, points_of, targets_of, base_samples, first_span, second_span, case_of}
 use Rattle.figure.specs.Defects.{Missed, OneMissed, MissedByTargets, NeverTriggered, Beyond, Gapped, EitherWindow, defects}
 use Rattle.figure.specs.Exactness.{ExactDelivery}
@@ -338,7 +338,7 @@ module _ (xs : List Sample) (d : Disturbance) (a : Asked) (ys : List Sample) (hs
     same_base = ap (λ f. r (mean f (base_samples xs d a))) (fun_ext (same_base_push r one (targets_of (image a hs)) taken)) ∙ ap (λ ps. r (mean (base_push r other) ps)) same_base_samples
 
     same_value : (w : Window) → value r one w ≡ value r other w
-    same_value w = value_is r one w ∙ ap (λ b. averaged r (from_base r one b) (used one) w) same_base ∙ ap (λ ps. averaged r (from_base r one (base r other)) (used_points R ps) w) same_points ∙ sym (value_is r other w)
+    same_value w = value_is r one w ∙ ap (λ b. value_of r (from_base r one b) (used one) w) same_base ∙ ap (λ ps. value_of r (from_base r one (base r other)) (used_points R ps) w) same_points ∙ sym (value_is r other w)
 
     same_values : value r one ≡ value r other
     same_values = fun_ext same_value

@@ -1,5 +1,5 @@
 -- The weighed response, before and after the disturbance time, and where it and the values of windows are rounded.
-use Rattle.std.proofs.Common.{◌≡◌, ℕ, ◌-◌, ◌<◌, ◌≤◌, Bool, cond, length, ℤ, pos, ◌-ℤ◌, ◌*ℤ◌, sym, ap, ◌∙◌, subst, arith}
+use Rattle.std.proofs.Common.{◌≡◌, ℕ, ◌-◌, ◌<◌, ◌≤◌, Bool, cond, List, length, ℤ, pos, ◌-ℤ◌, ◌*ℤ◌, sym, refl, ap, ◌∙◌, subst, arith}
 use borrow.Author.Differences.{ints}
 use Rattle.std.specs.List.{AllByRecursion}
 use Rattle.std.proofs.lemmas.Bool.{le-ltb, lt-ltb}
@@ -14,11 +14,11 @@ use Rattle.response.specs.Weights.{Factor, one}
 use Rattle.response.specs.declared.group.Window.{Window}
 use Rattle.figure.specs.declared.point.Point.{Point}
 use Rattle.figure.specs.Points.{Rises}
-use Rattle.figure.specs.Steps.{Case, to_half_up, unrounded, hundredths, weighed, weight, used, response, compensated, value}
+use Rattle.figure.specs.Steps.{Case, to_half_up, unrounded, hundredths, weighed, value_of, weight, used, response, compensated, value}
 use Rattle.figure.specs.StepLaws.{Rounded, Weighed, factor_at, ResponseLaws, average_in, ValueLaws}
 use Rattle.figure.proofs.Curves.{value_is}
 use Rattle.figure.proofs.Targets.{rounded_half_up, rounded_equal}
-use Rattle.figure.proofs.Meanings.{level_value}
+use Rattle.figure.proofs.Meanings.{level_value, level_value_of_any_points}
 
 -- ---- a fraction times a factor
 times_factor : (x : Fraction) (w : Factor) → Near 0 (weighed x w · w.d) (x · w.n)
@@ -91,11 +91,17 @@ hundredth_of x y h = near_trans {n = 0} {m = 0} (near_same reads_self (reads_by 
 in_watts : (watts : ℤ) (k : ℕ) → Near 0 (hundredths watts · k ÷ 100) (whole (watts *ℤ pos k))
 in_watts watts k = near_same (reads_by 100 (omega arith) (reads-· k (reads_whole_times watts 100))) (reads_whole_times watts k) (omega arith)
 
+-- so many watts, counted so often, are their own half-up
+watts_kept : (watts : ℤ) (k : ℕ) → to_half_up (hundredths watts · k ÷ 100) ≡ whole (watts *ℤ pos k)
+watts_kept watts k = let same = near_equal (in_watts watts k) in ap whole (half_up_value _ _ same.0 same.1 ∙ half_up_of_whole (watts *ℤ pos k))
+
 level_in_watts : (c : Case) (watts : ℤ) (w : Window) → Rises (used c) → 0 < length (used c) → w.start < w.end → AllByRecursion (λ p. compensated to_half_up c p ≡ hundredths watts) (used c)
     → value to_half_up c w ≡ whole (watts *ℤ pos w.multiplier)
-level_in_watts c watts w rises some less level =
-    let same = near_equal (in_watts watts w.multiplier) in
-    level_value c (watts *ℤ pos 100) w rises some less level ∙ ap whole (half_up_value _ _ same.0 same.1 ∙ half_up_of_whole (watts *ℤ pos w.multiplier))
+level_in_watts c watts w rises some less level = level_value c (watts *ℤ pos 100) w rises some less level ∙ watts_kept watts w.multiplier
+
+level_in_watts_of_any_points : (watts : ℤ) (used : List Point) (w : Window) → Rises used → 0 < length used → w.start < w.end
+    → value_of to_half_up (λ _. hundredths watts) used w ≡ whole (watts *ℤ pos w.multiplier)
+level_in_watts_of_any_points watts used w rises some less = level_value_of_any_points (watts *ℤ pos 100) used w rises some less ∙ watts_kept watts w.multiplier
 
 pub value_laws : ValueLaws
 value_laws = record {
@@ -103,4 +109,8 @@ value_laws = record {
   exact = λ c w. rw (value_is unrounded c w) (near_equal (hundredth_times (average_in unrounded c w) w.multiplier));
   rounded_once = λ c w x h. rw (value_is to_half_up c w) (rounded_equal x _ (hundredth_of x (average_in to_half_up c w · w.multiplier) h));
   level_in_watts = level_in_watts;
+  end_is_that_of_the_responses = λ r c t. refl;
+  value_is_that_of_the_responses = value_is;
+  end_rounded_once_of_any_response = λ f used t. rounded_half_up _;
+  level_in_watts_of_any_points = level_in_watts_of_any_points;
 }

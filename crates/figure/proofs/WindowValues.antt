@@ -17,8 +17,8 @@ use Rattle.exact.proofs.EvenChanges.{half, straight_even, average_even}
 use Rattle.response.specs.declared.group.Window.{Window}
 use Rattle.figure.specs.declared.point.Point.{Point}
 use Rattle.figure.specs.Points.{After, Rises}
-use Rattle.figure.specs.Steps.{Rounding, Case, unrounded, weighed, is_used, inside, weight, used, response, compensated, at_end, value}
-use Rattle.figure.proofs.Curves.{averaged, value_is}
+use Rattle.figure.specs.Steps.{Rounding, Case, unrounded, weighed, is_used, inside, value_of, weight, used, response, compensated, at_end, value}
+use Rattle.figure.proofs.Curves.{value_is}
 use Rattle.figure.specs.WindowLaws.{Steady, SteadyRoundings, OnLine, EndsOfWindows, window, ChangeEvenly, IsTimes, ValuesOfWindows}
 use Rattle.figure.proofs.Rising.{rises_kept, inside_climbs}
 use Rattle.figure.proofs.WindowAreas.{near_from, not_after_start, not_before_end, none_later, L, at_own, before_next, area, areas_join}
@@ -208,7 +208,7 @@ module _ (c : Case) (first : Point) (later : List Point) (m : ℕ) where
 
   by_area : (s e : ℕ) → used c ≡ first ∷ later → first.time ≤ s → s < e → Near 0 (value unrounded c (window s e m) · (e - s)) (A s e · m ÷ 200)
   by_area s e is le lt =
-      near_from (ap (λ (x : Fraction). x · (e - s)) (value_is unrounded c (window s e m)) ∙ ap (λ (us : List Point). averaged unrounded g us (window s e m) · (e - s)) is ∙ ap (λ (ks : List Point). average (λ (p : Point). p.time) g s (L g first.time (g first) later s) ks e (L g first.time (g first) later e) · m ÷ 100 · (e - s)) (not_after_start s e first later le))
+      near_from (ap (λ (x : Fraction). x · (e - s)) (value_is unrounded c (window s e m)) ∙ ap (λ (us : List Point). value_of unrounded g us (window s e m) · (e - s)) is ∙ ap (λ (ks : List Point). average (λ (p : Point). p.time) g s (L g first.time (g first) later s) ks e (L g first.time (g first) later e) · m ÷ 100 · (e - s)) (not_after_start s e first later le))
       (over_length (A s e) (e - s) m (omega arith))
 
 adjoining : (c : Case) (start middle end multiplier : ℕ) (first : Point) (later : List Point) → Rises c.points → used c ≡ first ∷ later → first.time ≤ start → start < middle → middle < end

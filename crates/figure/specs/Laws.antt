@@ -14,9 +14,10 @@ use Rattle.response.specs.declared.setup.Trigger.{Trigger}
 use Rattle.response.specs.Groups.{Sound as SoundRow}
 use Rattle.response.specs.Limits.{IsRate}
 use Rattle.disturbance.specs.declared.disturbance.Disturbance.{Disturbance}
+use Rattle.figure.specs.declared.point.Point.{Point}
 use Rattle.figure.specs.declared.report.Report.{Report}
 use Rattle.figure.specs.Points.{Rises}
-use Rattle.figure.specs.Steps.{Case, to_half_up, is_base, used, compensated, value}
+use Rattle.figure.specs.Steps.{Case, to_half_up, is_base, value_of, used, compensated, value}
 use Rattle.figure.specs.Windows.{ramp_start, ramp_time, placed, Empty}
 use Rattle.figure.specs.Asked.{Asked}
 use Rattle.figure.specs.Barred.{RefusedExactly}
@@ -48,6 +49,10 @@ pub record EmptyByRecovery : Type 0 where
 abbrev pub LevelValue : Type 0
 LevelValue = (c : Case) (z : ℤ) (w : Window) → Rises (used c) → 0 < length (used c) → w.start < w.end
     → AllByRecursion (λ p. compensated to_half_up c p ≡ whole z) (used c) → value to_half_up c w ≡ to_half_up (whole z · w.multiplier ÷ 100)
+
+-- a level response at any points, of a case or not, averages to itself: the value is the multiplier times it
+abbrev pub LevelValueOfAnyPoints : Type 0
+LevelValueOfAnyPoints = (z : ℤ) (used : List Point) (w : Window) → Rises used → 0 < length used → w.start < w.end → value_of to_half_up (λ _. whole z) used w ≡ to_half_up (whole z · w.multiplier ÷ 100)
 
 -- ---- what holds of the answers
 
@@ -88,6 +93,7 @@ pub record FigureLaws : Type 0 where
   pub ramp_is_first : RampIsFirst
   pub empty_by_recovery : EmptyByRecovery
   pub level_value : LevelValue
+  pub level_value_of_any_points : LevelValueOfAnyPoints
   pub one_answer : OneAnswer
   pub one_exact_delivery : OneExactDelivery
   pub refused_by_defects : RefusedByDefects

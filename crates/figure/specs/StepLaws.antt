@@ -19,7 +19,7 @@ use Rattle.recording.specs.declared.sample.Sample.{Sample}
 use Rattle.disturbance.specs.declared.disturbance.Disturbance.{Disturbance}
 use Rattle.figure.specs.declared.point.Point.{Point}
 use Rattle.figure.specs.Points.{Rises}
-use Rattle.figure.specs.Steps.{Rounding, Case, to_half_up, unrounded, hundredths, base_points, inside, used, trajectory, base_push, base, compensated, at_end, value, delivery}
+use Rattle.figure.specs.Steps.{Rounding, Case, to_half_up, unrounded, hundredths, base_points, inside, window_end, value_of, used, trajectory, base_push, base, compensated, at_end, value, delivery}
 use Rattle.figure.specs.Asked.{Asked, case_of}
 
 -- ---- roundings
@@ -199,6 +199,17 @@ pub record ValueLaws : Type 0 where
   pub level_in_watts : (c : Case) (watts : ℤ) (w : Window) → Rises (used c) → 0 < length (used c) → w.start < w.end
       → AllByRecursion (λ p. compensated to_half_up c p ≡ hundredths watts) (used c)
       → value to_half_up c w ≡ whole (watts *ℤ pos w.multiplier)
+  -- in a case, ends and values are those of its compensated responses at its used points, rounded or not; so what holds of
+  -- every response at any points holds of them
+  pub end_is_that_of_the_responses : (r : Rounding) (c : Case) (t : ℕ) → at_end r c t ≡ window_end r (compensated r c) (used c) t
+  pub value_is_that_of_the_responses : (r : Rounding) (c : Case) (w : Window)
+      → value r c w ≡ value_of r (compensated r c) (used c) w
+  -- of any response at any points: it is rounded once at an end of a window, to a whole hundredth
+  pub end_rounded_once_of_any_response : (f : Point → Fraction) (used : List Point) (t : ℕ)
+      → Rounded (line (λ p. p.time) f used t) (window_end to_half_up f used t)
+  -- a level response of so many watts, at any points, has the value of the multiplier times these watts
+  pub level_in_watts_of_any_points : (watts : ℤ) (used : List Point) (w : Window) → Rises used → 0 < length used → w.start < w.end
+      → value_of to_half_up (λ _. hundredths watts) used w ≡ whole (watts *ℤ pos w.multiplier)
 
 -- ---- the delivery
 

@@ -5,7 +5,7 @@ use Rattle.std.specs.Prelude.{ℕ, ◌+◌, ◌-◌, ◌*◌, Bool, true, cond, 
 use Rattle.exact.specs.Fractions.{Fraction, whole, ◌⊕◌, ◌⊖◌, ◌·◌, ◌÷◌, lesser, greater}
 use Rattle.exact.specs.Rounding.{half_up}
 use Rattle.exact.specs.Lines.{line}
-use Rattle.exact.specs.Averages.{mean, trapezoid}
+use Rattle.exact.specs.Averages.{mean, trapezoid, average}
 use Rattle.timeline.specs.declared.target.Target.{Target}
 use Rattle.disturbance.specs.declared.direction.Direction.{Direction}
 use Rattle.disturbance.specs.Direction.{push}
@@ -93,6 +93,16 @@ weighed x w = x · w.n ÷ w.d
 abbrev pub lesser_of : Fraction → Option Fraction → Fraction
 lesser_of x None = x
 lesser_of x (Some y) = lesser x y
+
+-- ---- the end and the value of a window from any response f at any points that are used, for the laws that speak of no case
+
+-- the response at the end of a window: on its straight line, and level from the last used point on
+abbrev pub window_end : Rounding → (Point → Fraction) → List Point → ℕ → Fraction
+window_end r f used t = r (line (λ p. p.time) f used t)
+
+-- multiplier times the trapezoid average, in watts
+abbrev pub value_of : Rounding → (Point → Fraction) → List Point → Window → Fraction
+value_of r f used w = r (average (λ p. p.time) f w.start (window_end r f used w.start) (inside w.start w.end used) w.end (window_end r f used w.end) · w.multiplier ÷ 100)
 
 module _ (c : Case) where
   -- the weight at a point, its offset counted from T; before T it is 1

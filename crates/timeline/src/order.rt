@@ -1,6 +1,6 @@
 //! The order of entries: whether a table is in order, and the times of neighbours.
-ghost use Rattle.std.specs.Prelude.{◌≡◌, ℕ, ◌+◌, ◌<◌, length, None, Decides, slice_index_or};
-ghost use Rattle.timeline.specs.Orders.{Sound, is_sound, misplaced, time_before, time_after};
+ghost use Rattle.std.specs.Prelude.{◌≡◌, ◌<◌, None, Decides};
+ghost use Rattle.timeline.specs.Orders.{Ordered, Sound, is_sound, misplaced, time_before, time_after};
 
 use crate::entry::Entry;
 
@@ -27,20 +27,22 @@ pub(crate) fn time_after<E: Entry>(entries: &[E], place: usize) -> Option<u32>
     Some(entry.time())
 }
 
-// Whether every entry is within its limits.
-fn are_within<E: Entry>(entries: &[E]) -> bool
-    ensures { Decides result ((i : ℕ) (d : E) → i < length entries.now
-        → E.kind.outside (slice_index_or entries.now i d) ≡ None) }
+// Whether an entry may come after another: it is within its limits, and later.
+fn may_follow<E: Entry>(before: &E, entry: &E) -> bool
+    ensures { Decides result ((E.kind.outside entry.now ≡ None) × (E.kind.time before.now < E.kind.time entry.now)) }
 {
-    entries.iter().all(|entry| entry.outside().is_none())
+    entry.outside().is_none() && before.time() < entry.time()
 }
 
-// Whether each entry is earlier than the next.
-fn are_rising<E: Entry>(entries: &[E]) -> bool
-    ensures { Decides result ((i : ℕ) (d : E) → i + 1 < length entries.now
-        → E.kind.time (slice_index_or entries.now i d) < E.kind.time (slice_index_or entries.now (i + 1) d)) }
+// Whether entries are in order. One pass, which ends at the first entry that is outside its limits
+// or not later than the one before.
+fn are_ordered<E: Entry>(entries: &[E]) -> bool
+    ensures { Decides result (Ordered E.kind entries.now) }
 {
-    entries.is_sorted_by(|before, after| before.time() < after.time())
+    entries
+        .first()
+        .is_none_or(|first| first.outside().is_none())
+        && entries.is_sorted_by(may_follow)
 }
 
 /// Whether a table has the counted entries, each within its limits and later than the one before.
@@ -48,7 +50,5 @@ pub fn is_sound<E: Entry>(table: &[E], count: usize) -> bool
     ensures as_computed_from_the_table { result ≡ is_sound E.kind count table.now }
     ensures true_exactly_where_the_table_is_sound { Decides result (Sound E.kind count table.now) }
 {
-    table
-        .get(..count)
-        .is_some_and(|counted| are_within(counted) && are_rising(counted))
+    table.get(..count).is_some_and(are_ordered)
 }

@@ -1,4 +1,4 @@
-use Rattle.figure.proofs.Meanings.{base_is_signed, ramp_is_first, empty_by_recovery, level_value}
+use Rattle.figure.proofs.Meanings.{base_is_signed, ramp_is_first, empty_by_recovery, level_value, level_value_of_any_points}
 use Rattle.figure.proofs.Barred.{refused_by_defects}
 use Rattle.figure.proofs.Once.{one_answer, one_exact_delivery}
 use Rattle.figure.proofs.Faithful.{reports_are_faithful}
@@ -12,6 +12,7 @@ returns c = record {
     ramp_is_first = ramp_is_first;
     empty_by_recovery = empty_by_recovery;
     level_value = level_value;
+    level_value_of_any_points = level_value_of_any_points;
     one_answer = one_answer;
     one_exact_delivery = one_exact_delivery;
     refused_by_defects = refused_by_defects;

@@ -1,25 +1,26 @@
-use Rattle.std.proofs.Common.{◌-◌, ◌*◌, arith, rules}
+use Rattle.std.proofs.Common.{ℕ, ◌+◌, ◌-◌, ◌*◌, ◌<◌, ◌≤◌, arith, rules}
 use Rattle.disturbance.proofs.Quotients.{Steps, rounded_steps, Crosses, never_reached, crossing_climbs, crossing_base, crossing_within, crossing_first}
 use Rattle.disturbance.proofs.crossing.Slope.first_reached.Goals as goal
 
 pub returns-then-y-span : goal.returns-then-y-span
 returns-then-y-span c = λ u. never_reached _ _ _ _ _ _ u c.requires.0 c.if-goal-here.false c.if-y-span.true
 
-crosses : (c : goal.Else-y-span) → Crosses c.args.self.start c.args.self.x c.args.self.end c.args.self.y c.args.goal c.args.from
-crosses c = record { le = omega arith; le' = omega arith; under = c.if-goal-here.false; over = c.if-y-span.false }
+-- past the two tests, whatever has been computed since
+crosses : {start x end y goal from : ℕ} → (start ≤ from) × (from ≤ end) → x * (end - from) + y * (from - start) < goal → goal ≤ y * (end - start) → Crosses start x end y goal from
+crosses within under over = record { le = within.0; le' = within.1; under = under; over = over }
 
 pub overflow_sub-need : goal.overflow_sub-need
-overflow_sub-need c = crossing_base (crosses c)
+overflow_sub-need c = crossing_base (crosses c.requires c.if-goal-here.false c.if-y-span.false)
 
 pub overflow_sub-climb : goal.overflow_sub-climb
-overflow_sub-climb c = omega (arith, crossing_climbs (crosses c))
+overflow_sub-climb c = omega (arith, crossing_climbs (crosses c.requires c.if-goal-here.false c.if-y-span.false))
 
 pub div_ceil-requires : goal.div_ceil-requires
-div_ceil-requires c = omega (arith, crossing_climbs (crosses c))
+div_ceil-requires c = omega (arith, crossing_climbs (crosses c.requires c.if-goal-here.false c.if-y-span.false))
 
 -- the same, once the quotient is known
 crossed : (c : goal.After-div_ceil) → Crosses c.args.self.start c.args.self.x c.args.self.end c.args.self.y c.args.goal c.args.from
-crossed c = record { le = omega arith; le' = omega arith; under = c.if-goal-here.false; over = c.if-y-span.false }
+crossed c = crosses c.requires c.if-goal-here.false c.if-y-span.false
 
 made : (c : goal.After-div_ceil) → Steps (c.args.goal - c.args.self.x * (c.args.self.end - c.args.self.start)) (c.args.self.y - c.args.self.x) c.div_ceil.result
 made c = rounded_steps _ _ (omega (arith, crossing_climbs (crossed c))) _ (search rules)
